@@ -1,0 +1,19 @@
+-- What a loop that goes through a slice from the front has left: the list from the index on. Assumes nothing.
+use mathlib.Core.Path.{_≡_, refl, ap, _∙_, sym}
+use mathlib.Core.List.{List, [], _∷_}
+use Prim.Native.Nat.{ℕ, zero, suc, _+_, _≤_, _<_}
+use native.Mathlib.Numerals.{add-one}
+use lib.ListN.{length, getD, drop, drop-of-length-le}
+use lib.Seq.{drop-cons}
+
+-- nothing is passed yet
+pub rest-none : (s : List ℕ) → drop 0 s ≡ s
+rest-none s = refl
+
+-- one element is next, and the rest after it
+pub rest-more : (s : List ℕ) (i : ℕ) → i < length s → drop i s ≡ getD s i 0 ∷ drop (i + 1) s
+rest-more s i h = drop-cons s i 0 h ∙ ap (λ (n : ℕ). getD s i 0 ∷ drop n s) (sym (add-one i))
+
+-- everything is passed
+pub rest-done : (s : List ℕ) (i : ℕ) → length s ≤ i → drop i s ≡ []
+rest-done s i h = drop-of-length-le s h

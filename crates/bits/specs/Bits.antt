@@ -1,0 +1,35 @@
+-- Bits, one to a byte, earliest sent first (document 01, "What the bench takes in").
+-- Assumes nothing.
+use Prim.Native.Nat.{ℕ, zero, suc, _+_, _-_, _*_, _/_, _%_, _^_}
+use mathlib.Core.Bool.{Bool, true, false}
+use mathlib.Core.List.{List, [], _∷_}
+use lib.Dec.{ltb}
+
+-- both tests hold
+abbrev pub both : Bool → Bool → Bool
+both true b = b
+both false b = false
+
+-- every byte is 0 or 1 (document 01, refusal 2)
+unfoldable pub allBits : List ℕ → Bool
+allBits [] = true
+allBits (b ∷ s) = both (ltb b 2) (allBits s)
+
+-- the number whose binary digits are those of a and then the bits of s
+unfoldable pub numberFrom : ℕ → List ℕ → ℕ
+numberFrom a [] = a
+numberFrom a (b ∷ s) = numberFrom (a * 2 + b) s
+
+-- the bits of s as a number, the first bit in the highest place
+abbrev pub numberOf : List ℕ → ℕ
+numberOf s = numberFrom 0 s
+
+-- the lowest k binary digits of x, the highest of them first
+unfoldable pub bitsOf : ℕ → ℕ → List ℕ
+bitsOf zero x = []
+bitsOf (suc k) x = (x / 2 ^ k % 2) ∷ bitsOf k x
+
+-- each bit turned into the other
+unfoldable pub flip : List ℕ → List ℕ
+flip [] = []
+flip (b ∷ s) = (1 - b) ∷ flip s

@@ -1,0 +1,49 @@
+-- The check bits, and the turn of a window from its remainder by f (document 01, "Check bits" and "Search, reading and place").
+-- Assumes nothing.
+use Prim.Native.Nat.{ℕ, zero, suc, _-_}
+use mathlib.Core.Bool.{Bool, true, false}
+use mathlib.Core.List.{List, [], _∷_, _++_}
+use lib.Dec.{eqb}
+use lib.ListN.{length, take, drop, replicate}
+use Rattle.bits.specs.Bits.{both}
+use Rattle.formats.specs.Polynomial.{sum}
+use Rattle.formats.specs.Numbers.{Numbers, fOf, gOf, fgOf}
+use Rattle.cyclic.specs.declared.Turn.{Turn}
+use Rattle.cyclic.specs.declared.Turn.the-variants.{At, Nothing}
+use Rattle.cyclic.specs.Remainder.{remainder}
+
+-- g with as many coefficients as there are check bits, 85
+unfoldable pub gPadded : Numbers → List ℕ
+gPadded F = replicate (85 - length (gOf F)) 0 ++ gOf F
+
+-- b84 to b0 from b(n-1) to b85: the remainder of these times x^85 by f*g, plus g
+unfoldable pub checkBits : Numbers → List ℕ → List ℕ
+checkBits F d = sum (remainder (fgOf F) (d ++ replicate 85 0)) (gPadded F)
+
+-- the telegram b read from b(n-1-t) on, round to b(n-t)
+unfoldable pub turned : ℕ → List ℕ → List ℕ
+turned t b = drop t b ++ take t b
+
+-- the remainder by f of every telegram turned by s: that of g times x^s
+unfoldable pub turnRemainder : Numbers → ℕ → List ℕ
+turnRemainder F s = remainder (fOf F) (gOf F ++ replicate s 0)
+
+-- the two lists are the same
+unfoldable pub same : List ℕ → List ℕ → Bool
+same [] [] = true
+same [] (b ∷ v) = false
+same (a ∷ u) [] = false
+same (a ∷ u) (b ∷ v) = both (eqb a b) (same u v)
+
+abbrev pub pickTurn : Bool → Turn → Turn → Turn
+pickTurn true x y = x
+pickTurn false x y = y
+
+-- the first turn from s on, of the next k, whose remainder by f is v
+unfoldable pub turnAmong : Numbers → ℕ → ℕ → List ℕ → Turn
+turnAmong F zero s v = Nothing
+turnAmong F (suc k) s v = pickTurn (same (turnRemainder F s) v) (At s) (turnAmong F k (suc s) v)
+
+-- the turn, 0 to n-1, whose remainder by f is v, or none
+unfoldable pub turnOf : Numbers → List ℕ → Turn
+turnOf F v = turnAmong F (F .n) 0 v

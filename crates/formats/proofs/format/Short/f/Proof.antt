@@ -1,0 +1,23 @@
+-- `formats::format::Short::f` meets its contract, by computation. Assumes nothing.
+use borrow.Author.Needs.{needs}
+use mathlib.Core.Path.{_≡_, refl, _∙_}
+use Rattle.bits.specs.Bits.{numberFrom}
+use Rattle.formats.specs.Numbers.{fOf}
+use Rattle.formats.specs.Polynomial.{polynomial, coefficientsBelow, coefficientOf}
+use Rattle.formats.specs.Value.{powers, allBelow}
+use Rattle.formats.proofs.format.Short.f.Statement.{statement}
+use Rattle.formats.proofs.format.Short.f.Tie as tie
+
+slice-aggregate-of : tie.Need-slice-aggregate-of
+slice-aggregate-of c = search needs
+
+of-requires : tie.Need-of-requires
+unfolding allBelow
+of-requires c κs = tt
+
+returns : tie.Need-returns
+unfolding powers numberFrom fOf polynomial coefficientsBelow coefficientOf
+returns c = c .of .ensures
+
+pub f-spec : {M : Type 1} → statement M
+f-spec = tie.close (tie.spec slice-aggregate-of of-requires returns)

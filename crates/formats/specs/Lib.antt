@@ -1,0 +1,4 @@
+pub mod Polynomial
+pub mod Numbers
+pub mod Refused
+pub mod Value

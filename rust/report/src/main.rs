@@ -1,0 +1,32 @@
+//! Prints what the appendices of document 000 hold, computed by the second
+//! program: `report`. The text is the same at every run.
+
+mod appendix_a;
+mod appendix_b;
+mod appendix_c;
+mod search;
+
+fn main() {
+    section("Appendix A: the table", &appendix_a::lines());
+    section("Appendix B: blocks and telegrams", &appendix_b::lines());
+    section("Appendix C: remainders", &appendix_c::lines());
+    section("The polynomials", &appendix_c::polynomial_lines());
+    section("The search", &search::lines());
+}
+
+fn section(heading: &str, lines: &[String]) {
+    println!("{heading}");
+    for line in lines {
+        println!("  {line}");
+    }
+    println!();
+}
+
+/// Yes or no.
+fn answer(holds: bool) -> &'static str {
+    if holds {
+        "yes"
+    } else {
+        "no"
+    }
+}

@@ -1,0 +1,24 @@
+//! The second program: document 01 written down once more, plainly, so that
+//! the main program can be compared with it. Bits are held one to a byte,
+//! 0 or 1, earliest sent first.
+
+pub mod appendices;
+pub mod bits;
+pub mod capture;
+pub mod check;
+pub mod conditions;
+pub mod cyclic;
+pub mod encode;
+pub mod format;
+pub mod random;
+pub mod read;
+pub mod refusal;
+pub mod scrambling;
+pub mod telegram;
+pub mod words;
+
+pub use capture::{search, stretch, Found, CAPTURE_LIMIT};
+pub use check::check;
+pub use encode::{encode, encode_skipping, Encoded, Refused};
+pub use format::Format;
+pub use read::{read, Reading};

@@ -1,0 +1,83 @@
+//! Reading a window (document 01, "Search, reading and place").
+
+use crate::bits::{all_bits, bits_of, flip, turn_right};
+use crate::cyclic::{remainder_by_f, remainder_by_g, turn_of_remainder};
+use crate::format::Format;
+use crate::refusal;
+use crate::scrambling::{descramble, restore_first};
+use crate::telegram::{b_of, control, CONTROL};
+use crate::words::{self, WORD_BITS};
+
+/// What a window says besides the user bits.
+#[derive(Clone, Copy, Debug, PartialEq, Eq)]
+pub struct Reading {
+    pub format: Format,
+    pub b: u16,
+    pub turn: usize,
+    pub flipped: bool,
+}
+
+/// Reads a window and writes its user bits, or gives the lowest number of a
+/// refusal that applies.
+pub fn read(window: &[u8], output: &mut [u8]) -> Result<Reading, u8> {
+    let format = Format::of_window(window.len()).ok_or(refusal::LENGTH)?;
+    if !all_bits(window) {
+        return Err(refusal::NOT_A_BIT);
+    }
+    if output.len() < format.user_bits() {
+        return Err(refusal::OUTPUT);
+    }
+    let (reading, user) = read_bits(window, format)?;
+    output[..format.user_bits()].copy_from_slice(&user);
+    Ok(reading)
+}
+
+/// Reads a window of a format's n+r bits, each 0 or 1: refusals 5 to 9.
+pub fn read_bits(window: &[u8], format: Format) -> Result<(Reading, Vec<u8>), u8> {
+    let (turned, extra) = window.split_at(format.telegram_bits());
+    if extra != &window[..format.extra_bits()] {
+        return Err(refusal::SEAM);
+    }
+    if remainder_by_g(turned, format) != 0 {
+        return Err(refusal::PARITY);
+    }
+    let remainder = remainder_by_f(turned, format);
+    let turn = turn_of_remainder(remainder, format).ok_or(refusal::TURN)?;
+    let mut telegram = turn_right(turned, turn);
+    let flipped = control(&telegram, format)[0] == 1;
+    if flipped {
+        telegram = flip(&telegram);
+    }
+    if control(&telegram, format) != CONTROL {
+        return Err(refusal::CONTROL);
+    }
+    let user = user_bits_of(&telegram, format)?;
+    let reading = Reading {
+        format,
+        b: b_of(&telegram, format),
+        turn,
+        flipped,
+    };
+    Ok((reading, user))
+}
+
+/// The user bits that a telegram carries, or refusal 9.
+pub fn user_bits_of(telegram: &[u8], format: Format) -> Result<Vec<u8>, u8> {
+    let replaced = descramble(
+        &scrambled_bits_of(telegram, format)?,
+        b_of(telegram, format),
+    );
+    Ok(restore_first(&replaced))
+}
+
+/// The scrambled bits of a telegram, or refusal 9. All words are looked up,
+/// the last ten too.
+pub fn scrambled_bits_of(telegram: &[u8], format: Format) -> Result<Vec<u8>, u8> {
+    let mut scrambled = Vec::with_capacity(10 * format.words());
+    for word in telegram.chunks(WORD_BITS) {
+        let number = words::number(words::of_bits(word)).ok_or(refusal::WORD)?;
+        scrambled.extend(bits_of(number.into(), 10));
+    }
+    scrambled.truncate(format.user_bits());
+    Ok(scrambled)
+}

@@ -1,0 +1,36 @@
+//! The long block without a pair: refusal 4, the output untouched.
+
+use second::appendices::block_without_a_pair;
+use second::conditions::Seam;
+use second::encode::{first_pair_skipping, PAIRS};
+use second::format::Format;
+use second::{encode, encode_skipping, Refused};
+
+const NO_PAIR: Refused = Refused {
+    number: 4,
+    count: PAIRS,
+};
+
+#[test]
+fn skipping() {
+    let mut output = [9; 1030];
+    let block = block_without_a_pair();
+    assert_eq!(encode_skipping(&block, &mut output), Err(NO_PAIR));
+    assert_eq!(output, [9; 1030]);
+    assert_eq!(PAIRS, 4096 * 1024);
+}
+
+#[test]
+fn round_the_ring() {
+    let block = block_without_a_pair();
+    assert_eq!(first_pair_skipping(&block, Format::Long, Seam::Ring), None);
+}
+
+/// All 4,194,304 pairs, each formed and tested.
+#[test]
+fn every_pair() {
+    let mut output = [9; 1030];
+    let block = block_without_a_pair();
+    assert_eq!(encode(&block, &mut output), Err(NO_PAIR));
+    assert_eq!(output, [9; 1030]);
+}

@@ -1,0 +1,88 @@
+//! The program's whole output.
+
+use std::io::Write;
+use std::process::{Command, Stdio};
+
+use second::bits::text;
+use second::telegram::cut;
+use second::{encode_skipping, Format};
+
+fn run(kind: &str, input: &str) -> String {
+    let mut child = Command::new(env!("CARGO_BIN_EXE_second"))
+        .arg(kind)
+        .stdin(Stdio::piped())
+        .stdout(Stdio::piped())
+        .spawn()
+        .unwrap();
+    let mut stdin = child.stdin.take().unwrap();
+    stdin.write_all(input.as_bytes()).unwrap();
+    drop(stdin);
+    String::from_utf8(child.wait_with_output().unwrap().stdout).unwrap()
+}
+
+#[test]
+fn capture_of_zeros() {
+    let expected = "balise capture 1\nbits 462\nnone\n";
+    assert_eq!(run("capture", &"0".repeat(462)), expected);
+    assert_eq!(run("capture", &"0\r\n".repeat(462)), expected);
+    assert_eq!(run("capture", ""), "balise capture 1\nbits 0\nnone\n");
+}
+
+#[test]
+fn bad_input() {
+    assert_eq!(run("capture", "0 1"), "balise capture 1\nbad\n");
+    for (kind, limit) in [
+        ("encode", 830),
+        ("check", 1023),
+        ("read", 1100),
+        ("capture", 7500),
+    ] {
+        let bad = format!("balise {kind} 1\nbad\n");
+        assert_eq!(run(kind, &"0".repeat(limit + 1)), bad);
+        assert_ne!(run(kind, &"0".repeat(limit)), bad);
+    }
+}
+
+#[test]
+fn refused() {
+    assert_eq!(run("encode", "01"), "balise encode 1\nbits 2\nrefused 1\n");
+    assert_eq!(run("check", "01"), "balise check 1\nbits 2\nrefused 1\n");
+    assert_eq!(
+        run("read", &"0".repeat(462)),
+        "balise read 1\nbits 462\nrefused 7\n"
+    );
+}
+
+#[test]
+fn accepted() {
+    let user = [0; 210];
+    let mut telegram = [0; 341];
+    let encoded = encode_skipping(&user, &mut telegram).unwrap();
+    let (b, esb, count) = (encoded.b, encoded.esb, encoded.count);
+    assert_eq!(
+        run("encode", &text(&user)),
+        format!(
+            "balise encode 1\nbits 210\nshort sb {b} esb {esb} tried {count}\n{}\n",
+            text(&telegram)
+        )
+    );
+    assert_eq!(
+        run("check", &text(&telegram)),
+        "balise check 1\nbits 341\nshort proper\n"
+    );
+    let window = cut(&telegram, 12, Format::Short.window_bits(), true);
+    assert_eq!(
+        run("read", &text(&window)),
+        format!(
+            "balise read 1\nbits 462\nshort turn 12 sb {b} flipped\n{}\n",
+            text(&user)
+        )
+    );
+    assert_eq!(
+        run("capture", &text(&window)),
+        format!(
+            "balise capture 1\nbits 462\nshort place 0 turn 12 sb {b} flipped\n{}\n",
+            text(&user)
+        )
+    );
+}

@@ -1,0 +1,229 @@
+//! Each refusal of check and read where it is the lowest that applies.
+
+use second::bits::{bits_of, flip, number_of};
+use second::conditions::{condition_2, condition_3, condition_4, thinned_run};
+use second::cyclic::{check_bits, remainder_by_g};
+use second::format::{Format, FORMATS};
+use second::random::Random;
+use second::telegram::{complete, cut, well_formed};
+use second::words::{valid, word};
+use second::{check, encode_skipping, read};
+
+fn telegram_of(user: &[u8]) -> Vec<u8> {
+    let mut output = vec![0; 1023];
+    let encoded = encode_skipping(user, &mut output).unwrap();
+    output.truncate(encoded.format.telegram_bits());
+    output
+}
+
+/// The telegram with its check bits put right again.
+fn rechecked(mut telegram: Vec<u8>, format: Format) -> Vec<u8> {
+    telegram.truncate(format.telegram_bits() - 85);
+    let check = check_bits(&telegram, format);
+    telegram.extend(check);
+    telegram
+}
+
+fn window_of(telegram: &[u8], format: Format, turn: usize, flipped: bool) -> Vec<u8> {
+    cut(telegram, turn, format.window_bits(), flipped)
+}
+
+fn read_number(window: &[u8]) -> Option<u8> {
+    let mut output = [9; 830];
+    let answer = read(window, &mut output).err();
+    assert!(answer.is_none() || output == [9; 830]);
+    answer
+}
+
+#[test]
+fn lengths_and_bytes() {
+    for length in [0, 1, 340, 342, 1022, 1024] {
+        assert_eq!(check(&vec![3; length]), Err(1));
+    }
+    for length in [341, 1023] {
+        let mut telegram = vec![0; length];
+        assert_eq!(check(&telegram), Err(7));
+        telegram[length - 1] = 1;
+        assert_eq!(check(&telegram), Err(6));
+        telegram[0] = 255;
+        assert_eq!(check(&telegram), Err(2));
+    }
+    for length in [462, 1100] {
+        let mut output = [9; 209];
+        assert_eq!(read(&vec![1; length], &mut output), Err(3));
+        assert_eq!(output, [9; 209]);
+    }
+}
+
+#[test]
+fn seam_and_parity() {
+    for format in FORMATS {
+        let telegram = telegram_of(&vec![0; format.user_bits()]);
+        let (n, r) = (format.telegram_bits(), format.extra_bits());
+        for place in 0..n + r {
+            let mut window = window_of(&telegram, format, 5, false);
+            window[place] ^= 1;
+            let expected = if place < r || place >= n { 5 } else { 6 };
+            assert_eq!(read_number(&window), Some(expected));
+            if place < n {
+                let mut changed = telegram.clone();
+                changed[place] ^= 1;
+                assert_eq!(check(&changed), Err(6));
+            }
+        }
+    }
+}
+
+#[test]
+fn turns() {
+    for format in FORMATS {
+        let telegram = telegram_of(&vec![1; format.user_bits()]);
+        for turn in 1..format.telegram_bits() {
+            let turned = cut(&telegram, turn, telegram.len(), false);
+            assert_eq!(check(&turned), Err(7));
+        }
+        assert_eq!(check(&flip(&telegram)), Err(8));
+        let three = [&telegram[..], &telegram, &telegram].concat();
+        if format == Format::Short {
+            assert_eq!(remainder_by_g(&three, Format::Long), 0);
+            assert_eq!(check(&three), Err(7));
+        }
+    }
+}
+
+#[test]
+fn control_bits() {
+    for format in FORMATS {
+        let telegram = telegram_of(&vec![0; format.user_bits()]);
+        let at = format.shaped_bits();
+        for control in 0..8 {
+            let mut other = telegram.clone();
+            other[at..at + 3].copy_from_slice(&bits_of(control, 3));
+            let other = rechecked(other, format);
+            let allowed = control == 1;
+            assert_eq!(check(&other).err() == Some(8), !allowed);
+            for flipped in [false, true] {
+                let answer = read_number(&window_of(&other, format, 77, flipped));
+                // Upright, 1, 1, 0 is flipped into 0, 0, 1.
+                assert_eq!(answer == Some(8), control != 1 && control != 6);
+            }
+        }
+    }
+}
+
+/// A word outside the table, in the shaped data and in the last ten words.
+#[test]
+fn words() {
+    let mut random = Random::new(16);
+    for format in FORMATS {
+        let telegram = telegram_of(&random.bits(format.user_bits()));
+        for index in 0..format.blocks() {
+            let mut other = telegram.clone();
+            let barred = (0..2048).find(|&w| !valid(w)).unwrap();
+            other[11 * index..11 * index + 11].copy_from_slice(&bits_of(barred.into(), 11));
+            let other = rechecked(other, format);
+            assert_eq!(check(&other), Err(9));
+            assert_eq!(read_number(&window_of(&other, format, 3, true)), Some(9));
+        }
+        let mut seen = [false; 10];
+        for esb in 0..1024 {
+            let mut other = telegram.clone();
+            let at = format.shaped_bits() + 15;
+            other[at..at + 10].copy_from_slice(&bits_of(esb, 10));
+            let other = rechecked(other, format);
+            let last = &other[format.shaped_bits()..];
+            let bad: Vec<usize> = (0..10)
+                .filter(|&i| !valid(number_of(&last[11 * i..11 * i + 11]) as u16))
+                .collect();
+            if let [only] = bad[..] {
+                seen[only] = true;
+            }
+            assert_eq!(check(&other) == Err(9), !bad.is_empty());
+            let answer = read_number(&window_of(&other, format, 200, false));
+            assert_eq!(answer, if bad.is_empty() { None } else { Some(9) });
+        }
+        assert!(seen[2..].iter().filter(|&&seen| seen).count() > 0);
+    }
+}
+
+/// Well-formed telegrams with drawn words: the checker gives 10, 11 or 12 by
+/// the first condition that fails, and the reader takes them all.
+#[test]
+fn conditions() {
+    let mut random = Random::new(17);
+    let mut seen = [0; 13];
+    for format in FORMATS {
+        let mut made = 0;
+        while made < 60 {
+            // Few different words make repeats, and so conditions 3 and 4 fail.
+            let kinds = [1024, 1, 2, 3][made % 4];
+            let pool: Vec<u16> = (0..kinds).map(|_| random.below(1024) as u16).collect();
+            let mut head: Vec<u8> = (0..format.blocks())
+                .flat_map(|_| bits_of(word(pool[random.below(kinds)]).into(), 11))
+                .collect();
+            head.extend([0, 0, 1]);
+            head.extend(random.bits(22));
+            let check_part = check_bits(&head, format);
+            head.extend(check_part);
+            if !well_formed(&head, format) {
+                continue;
+            }
+            made += 1;
+            let expected = if !condition_2(&head, format) {
+                Err(10)
+            } else if !condition_3(&head, format) {
+                Err(11)
+            } else if !condition_4(&head) {
+                Err(12)
+            } else {
+                Ok(format)
+            };
+            assert_eq!(check(&head), expected);
+            seen[usize::from(expected.err().unwrap_or(0))] += 1;
+            assert_eq!(read_number(&window_of(&head, format, 9, true)), None);
+        }
+    }
+    assert!(seen[0] > 0 && seen[10] > 0 && seen[11] > 0);
+}
+
+/// A long telegram that only condition 4 bars. In each of 31 neighbouring
+/// pairs of shaped words every second bit makes a word of the telegram thinned
+/// twice; pairs are drawn so that these are valid.
+#[test]
+fn thinned() {
+    let format = Format::Long;
+    let mut random = Random::new(22);
+    let mut draw = |count| -> Vec<u8> {
+        (0..count)
+            .flat_map(|_| bits_of(word(random.below(1024) as u16).into(), 11))
+            .collect()
+    };
+    let telegram = loop {
+        let mut shaped = Vec::new();
+        for _ in 0..31 {
+            shaped.extend(loop {
+                let pair = draw(2);
+                let second: Vec<u8> = pair.iter().copied().step_by(2).collect();
+                if valid(number_of(&second) as u16) {
+                    break pair;
+                }
+            });
+        }
+        shaped.extend(draw(21));
+        let found = (16..4096).find_map(|b| {
+            let telegram = complete(&shaped, b, b % 1024, format);
+            let fine = well_formed(&telegram, format)
+                && condition_2(&telegram, format)
+                && condition_3(&telegram, format);
+            fine.then_some(telegram)
+        });
+        if let Some(telegram) = found {
+            break telegram;
+        }
+    };
+    // b(1022) is v(511), which stands 511 places after v(1022).
+    assert!(thinned_run(&telegram, 1, 511 % 11) >= 31);
+    assert!(!condition_4(&telegram));
+    assert_eq!(check(&telegram), Err(12));
+    assert_eq!(read_number(&window_of(&telegram, format, 50, false)), None);
+}
