@@ -1,2 +1,7 @@
+pub mod AllBits
 pub mod Both
+pub mod Flipped
+pub mod Numbers
 pub mod Rest
+pub mod Writer
+pub mod Xor

@@ -1,11 +1,10 @@
 // Bits, one to a byte, earliest sent first: the test that every byte is 0 or 1, the number of
 // some consecutive bits, and the flip.
 ghost use mathlib.Core.Path.{_≡_};
-ghost use Prim.Native.Nat.{_+_, _≤_};
-ghost use mathlib.Core.List.{_++_};
+ghost use Prim.Native.Nat.{_+_, _≤_, _<_};
 ghost use lib.Dec.{T};
 ghost use lib.ListN.{length, take, drop};
-ghost use Rattle.bits.specs.Bits.{allBits, numberOf, numberFrom, flip};
+ghost use Rattle.bits.specs.Bits.{allBits, numberOf, flip};
 
 // Whether every byte of s is 0 or 1.
 pub fn all_bits(s: &[u8]) -> bool
@@ -19,4 +18,30 @@ pub fn all_bits(s: &[u8]) -> bool
         i += 1;
     }
     true
+}
+
+// The number of the k bits of s from index at on, the first in the highest place.
+pub fn number(s: &[u8], at: usize, k: usize) -> u32
+    requires { ⌜ (at + k ≤ length (now s)) × ((k < 32) × T (allBits (now s))) ⌝ }
+    ensures { λ r. ⌜ r ≡ numberOf (take k (drop at (now (s .entry)))) ⌝ }
+{
+    let mut x: u32 = 0;
+    let mut i = 0;
+    while i < k {
+        x = x * 2 + s[at + i] as u32;
+        i += 1;
+    }
+    x
+}
+
+// Turns each bit of s into the other.
+pub fn flip(s: &mut [u8])
+    requires { ⌜ T (allBits (now s)) ⌝ }
+    ensures { λ _. ⌜ now (s .exit) ≡ flip (now (s .entry)) ⌝ }
+{
+    let mut i = 0;
+    while i < s.len() {
+        s[i] = 1 - s[i];
+        i += 1;
+    }
 }
