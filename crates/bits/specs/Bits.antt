@@ -4,6 +4,7 @@ use Prim.Native.Nat.{ℕ, zero, suc, _+_, _-_, _*_, _/_, _%_, _^_}
 use mathlib.Core.Bool.{Bool, true, false}
 use mathlib.Core.List.{List, [], _∷_}
 use lib.Dec.{ltb}
+use lib.ListN.{length, getD}
 
 -- both tests hold
 abbrev pub both : Bool → Bool → Bool
@@ -33,3 +34,8 @@ bitsOf (suc k) x = (x / 2 ^ k % 2) ∷ bitsOf k x
 unfoldable pub flip : List ℕ → List ℕ
 flip [] = []
 flip (b ∷ s) = (1 - b) ∷ flip s
+
+-- k bits of the ring of b from place p on: going round, the first follows the last (document 01, "Search, reading and place")
+unfoldable pub around : ℕ → ℕ → List ℕ → List ℕ
+around zero p b = []
+around (suc k) p b = getD b (p % length b) 0 ∷ around k (suc p) b
