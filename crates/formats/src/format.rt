@@ -2,13 +2,19 @@
 // f and g of each by their exponents (document 01, "Check bits").
 ghost use mathlib.Core.Path.{_≡_};
 ghost use Rattle.bits.specs.Bits.{numberOf};
-ghost use Rattle.formats.specs.Numbers.{long, short, numbersOf, fOf, gOf, fgOf};
+ghost use Rattle.formats.specs.Numbers.{long, short, numbersOf, fitOf, fOf, gOf, fgOf};
 ghost use Rattle.formats.specs.Value.{valueOf};
 use crate::register::Register;
 
 pub enum Format {
     Long,
     Short,
+}
+
+// The format that a length picks.
+pub enum Fit {
+    As(Format),
+    Nothing,
 }
 
 pub struct Long {}
@@ -179,6 +185,19 @@ impl Short {
             low: 0x87757959021b6d65,
         }
     }
+}
+
+// The format with the given length, of the one that each format asks.
+pub fn of_length(long_length: usize, short_length: usize, length: usize) -> Fit
+    ensures { λ r. ⌜ r ≡ fitOf «long_length» «short_length» length ⌝ }
+{
+    if length == long_length {
+        return Fit::As(Format::Long);
+    }
+    if length == short_length {
+        return Fit::As(Format::Short);
+    }
+    Fit::Nothing
 }
 
 // The format's telegram bits.
