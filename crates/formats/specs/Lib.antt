@@ -1,4 +1,5 @@
 pub mod Polynomial
 pub mod Numbers
+pub mod Outcome
 pub mod Refused
 pub mod Value
