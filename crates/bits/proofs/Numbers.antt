@@ -3,7 +3,7 @@ use mathlib.Core.Path.{_≡_, refl, sym, ap, ap₂, _∙_}
 use mathlib.Core.List.{List, [], _∷_, _++_}
 use Prim.Native.Nat.{ℕ, zero, suc, _+_, _*_, _/_, _%_, _^_, _<_}
 use native.Mathlib.Nat.{pow-suc, mul-assoc, add-mul, add-assoc, mul-comm, zero-add}
-use native.Mathlib.Numerals.{one-add}
+use native.Mathlib.Numerals.{add-one, one-add}
 use native.Mathlib.Omega.{arith}
 use lib.Arith.{digits-lt}
 use lib.Dec.{T, lit<}
@@ -12,9 +12,9 @@ use lib.Pow.{high, mod-pow-add}
 use Rattle.bits.specs.Bits.{allBits, numberFrom, numberOf, bitsOf}
 use Rattle.bits.proofs.AllBits.{allBits-head, allBits-tail, allBits-bitsOf}
 
-pub numberOf-nil : numberOf [] ≡ 0
+pub numberFrom-nil : (a : ℕ) → numberFrom a [] ≡ a
 unfolding numberFrom
-numberOf-nil = refl
+numberFrom-nil a = refl
 
 pub numberFrom-cons : (a b : ℕ) (s : List ℕ) → numberFrom a (b ∷ s) ≡ numberFrom (a * 2 + b) s
 unfolding numberFrom
@@ -46,11 +46,23 @@ numberFrom-append a (b ∷ u) v = numberFrom-append (a * 2 + b) u v
 pub numberOf-append : (u v : List ℕ) → numberOf (u ++ v) ≡ numberOf u * 2 ^ length v + numberOf v
 numberOf-append u v = numberFrom-append 0 u v ∙ numberFrom-place (numberOf u) v
 
+-- one more bit at the end
+pub more-below : (i n b : ℕ) → n < 2 ^ i → b < 2 → n * 2 + b < 2 ^ (i + 1)
+more-below i n b h k = rw (add-one, pow-suc) (digits-lt h k)
+
 pub numberOf-below : (s : List ℕ) → T (allBits s) → numberOf s < 2 ^ length s
 unfolding numberFrom
 numberOf-below [] h = lit< tt
 numberOf-below (b ∷ s) h =
     rw (numberOf-cons, pow-suc, mul-comm _ 2) (digits-lt (allBits-head b s h) (numberOf-below s (allBits-tail b s h)))
+
+pub bitsOf-zero : (x : ℕ) → bitsOf 0 x ≡ []
+unfolding bitsOf
+bitsOf-zero x = refl
+
+pub bitsOf-suc : (k x : ℕ) → bitsOf (suc k) x ≡ x / 2 ^ k % 2 ∷ bitsOf k x
+unfolding bitsOf
+bitsOf-suc k x = refl
 
 pub length-bitsOf : (k x : ℕ) → length (bitsOf k x) ≡ k
 unfolding bitsOf

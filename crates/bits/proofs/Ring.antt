@@ -1,12 +1,12 @@
 -- Bits of a ring: their number, their parts, the turn of the whole, and the flip. Assumes nothing.
 use mathlib.Core.Path.{_≡_, refl, sym, ap, ap₂, _∙_}
 use mathlib.Core.List.{List, [], _∷_, _++_}
-use Prim.Native.Nat.{ℕ, zero, suc, _+_, _-_, _%_, _≤_, _<_}
-use native.Mathlib.Nat.{suc-add, add-suc, add-zero, zero-add, mod-eq-of-lt, add-mod-right, mod-lt, le-of-suc-le-suc}
+use Prim.Native.Nat.{ℕ, zero, suc, _+_, _-_, _*_, _%_, _≤_, _<_}
+use native.Mathlib.Nat.{suc-add, add-suc, add-zero, zero-add, zero-mul, suc-mul, add-assoc, mod-eq-of-lt, add-mod-right, mod-lt, le-of-suc-le-suc}
 use native.Mathlib.Omega.{arith}
 use lib.Dec.{T}
 use lib.ListN.{length, getD, take, drop, length-take, length-drop}
-use lib.Seq.{take-all, ext-getD, getD-take, getD-drop}
+use lib.Seq.{take-all, take-at, drop-at, ext-getD, getD-take, getD-drop}
 use Rattle.bits.specs.Bits.{allBits, around, flip}
 use Rattle.bits.proofs.AllBits.{allBits-nil, allBits-cons, allBits-getD}
 use Rattle.bits.proofs.Flipped.{length-flip, getD-flip}
@@ -38,6 +38,12 @@ around-append (suc j) k p b =
     let place : suc p + j ≡ p + suc j = omega arith in
     rw (suc-add j k) (ap (λ (l : List ℕ). getD b (p % length b) 0 ∷ l) (around-append j k (suc p) b ∙ ap (λ (x : ℕ). around j (suc p) b ++ around k x b) place))
 
+pub take-around : (j k p : ℕ) (b : List ℕ) → take j (around (j + k) p b) ≡ around j p b
+take-around j k p b = rw around-append (take-at (around j p b) (around k (p + j) b) j (length-around j p b))
+
+pub drop-around : (j k p : ℕ) (b : List ℕ) → drop j (around (j + k) p b) ≡ around k (p + j) b
+drop-around j k p b = rw around-append (drop-at (around j p b) (around k (p + j) b) j (length-around j p b))
+
 -- once round is the same place
 pub around-period : (k p : ℕ) (b : List ℕ) → around k (p + length b) b ≡ around k p b
 unfolding around
@@ -45,6 +51,11 @@ around-period zero p b = refl
 around-period (suc k) p b =
     ap₂ (λ (x : ℕ) (l : List ℕ). getD b x 0 ∷ l) (add-mod-right p (length b))
     (ap (λ (x : ℕ). around k x b) (sym (suc-add p (length b))) ∙ around-period k (suc p) b)
+
+-- and so are any number of rounds
+pub around-rounds : (k p m : ℕ) (b : List ℕ) → around k (p + m * length b) b ≡ around k p b
+around-rounds k p zero b = rw (zero-mul, add-zero)
+around-rounds k p (suc m) b = rw (suc-mul, ← add-assoc) (around-period k (p + m * length b) b ∙ around-rounds k p m b)
 
 -- where the end is not reached the bits stand on a strip
 pub around-strip : (k p : ℕ) (b : List ℕ) → p + k ≤ length b → around k p b ≡ take k (drop p b)
