@@ -47,3 +47,11 @@ turnAmong F (suc k) s v = pickTurn (same (turnRemainder F s) v) (At s) (turnAmon
 -- the turn, 0 to n-1, whose remainder by f is v, or none
 unfoldable pub turnOf : Numbers → List ℕ → Turn
 turnOf F v = turnAmong F (F .n) 0 v
+
+-- g divides b
+unfoldable pub divisible : Numbers → List ℕ → Bool
+divisible F b = same (remainder (gOf F) b) (replicate 75 0)
+
+-- the remainder by f is that of turn 0
+unfoldable pub unturned : Numbers → List ℕ → Bool
+unturned F b = same (remainder (fOf F) b) (turnRemainder F 0)

@@ -1,0 +1,152 @@
+-- The n turns of a telegram leave different remainders by f, none of them 0, and `turnOf` finds the one.
+-- Assumes nothing.
+use Prim.Native.Nat.{ℕ, zero, suc, _+_, _-_, _<_, _≤_}
+use mathlib.Core.Path.{_≡_, refl, sym, ap, ap₂, subst, subst₂, _∙_}
+use mathlib.Core.Bool.{Bool, true, false, not}
+use mathlib.Core.List.{List, [], _∷_, _++_, append-assoc}
+use native.Mathlib.Numerals.{add-one}
+use native.Mathlib.Decide.{decLt}
+use native.Mathlib.Omega.{arith}
+use lib.Dec.{T, eqb, eqb→eq, eqb-refl, T-not, lit<}
+use lib.ListN.{drop}
+use Rattle.formats.specs.Numbers.{Numbers, fOf, gOf}
+use Rattle.cyclic.specs.declared.Turn.{Turn}
+use Rattle.cyclic.specs.declared.Turn.the-variants.{At, Nothing}
+use Rattle.cyclic.specs.Remainder.{step, remainder}
+use Rattle.cyclic.specs.Check.{same, turnRemainder, pickTurn, turnAmong, turnOf}
+use Rattle.bits.proofs.Both.{both-left, both-right, both-of}
+use Rattle.cyclic.proofs.Lists.{zeros}
+use Rattle.cyclic.proofs.Space.{pow, pow-X, pow-nil, pow-add, one-turn}
+use Rattle.cyclic.proofs.Registers.{Reg, same-bits, Mod, none, tail}
+use Rattle.cyclic.proofs.Remainders.{remainder-next}
+use Rattle.cyclic.proofs.Facts.{Facts, never}
+use Rattle.cyclic.proofs.Cyclic.{modF, remF, turn-is, g-round}
+
+-- two lists that pass the test `same` are equal
+pub same-equal : (u v : List ℕ) → T (same u v) → u ≡ v
+unfolding same
+same-equal [] [] h = refl
+same-equal [] (b ∷ v) h = absurd h
+same-equal (a ∷ u) [] h = absurd h
+same-equal (a ∷ u) (b ∷ v) h =
+    ap₂ {C = List ℕ} (λ x r. x ∷ r) (eqb→eq a b (both-left (eqb a b) (same u v) h)) (same-equal u v (both-right (eqb a b) (same u v) h))
+
+-- and a list passes it with itself
+pub same-refl : (u : List ℕ) → T (same u u)
+unfolding same
+same-refl [] = tt
+same-refl (a ∷ u) = both-of (eqb a a) (same u u) (eqb-refl a) (same-refl u)
+
+-- what `never` tests: none of the first k shifts of s is o
+never-is : (d : ℕ) (t s : Reg (suc d)) (o : List ℕ) (k i : ℕ) → T (never (t .of) o (s .of) k) → i < k → pow (Mod d t) i s .of ≡ o → ⊥
+unfolding never pow
+never-is d t s o zero i h l e = absurd (omega arith)
+never-is d t s o (suc k) zero h l e =
+    T-not (same (s .of) o) (both-left (not (same (s .of) o)) (never (t .of) o (step (t .of) (s .of) 0) k) h)
+    (subst (λ (x : List ℕ). T (same (s .of) x)) e (same-refl (s .of)))
+never-is d t s o (suc k) (suc i) h l e =
+    let M = Mod d t in
+    never-is d t (M .X s) o k i (both-right (not (same (s .of) o)) (never (t .of) o (step (t .of) (s .of) 0) k) h) (omega arith)
+    (ap (λ (r : Reg (suc d)). r .of) (pow-X M i s) ∙ e)
+
+-- a zero more behind zeros
+zeros-last : (k : ℕ) → zeros (suc k) ≡ zeros k ++ (0 ∷ [])
+zeros-last zero = refl
+zeros-last (suc k) = ap {B = List ℕ} (λ r. 0 ∷ r) (zeros-last k)
+
+module _ (F : Numbers) (A : Facts F) where
+  -- fewer than n shifts of g never come back
+  fresh-is : (k : ℕ) → 0 < k → k < F .n → pow (modF F A) k (remF F A (gOf F)) ≡ remF F A (gOf F) → ⊥
+  unfolding pow
+  fresh-is zero p l e = absurd (omega arith)
+  fresh-is (suc k) p l e =
+      let M = modF F A in
+      let g = remF F A (gOf F) in
+      never-is 9 (tail 9 (fOf F) (A .f-degree)) (pow M 1 g) (g .of) (F .n - 1) k
+      (subst₂ (λ (x y : List ℕ). T (never (drop 1 (fOf F)) x y (F .n - 1))) (turn-is F A 0) (turn-is F A 1) (A .fresh)) (omega arith)
+      (ap (λ (r : Reg 10). r .of) (sym (pow-add M k 1 g) ∙ ap (λ (j : ℕ). pow M j g) (add-one k) ∙ e))
+
+  -- the same remainder at two turns, as registers
+  turn-registers : (a b : ℕ) → turnRemainder F a ≡ turnRemainder F b
+      → pow (modF F A) a (remF F A (gOf F)) ≡ pow (modF F A) b (remF F A (gOf F))
+  turn-registers a b e = same-bits (sym (turn-is F A a) ∙ e ∙ turn-is F A b)
+
+  -- turns below n with the same remainder are the same
+  pub turn-unique : (a b : ℕ) → a < F .n → b < F .n → turnRemainder F a ≡ turnRemainder F b → a ≡ b
+  turn-unique a b p q e = go (decLt a b) (decLt b a)
+    where
+      go : Dec (a < b) → Dec (b < a) → a ≡ b
+      go (yes l) d = absurd (one-turn (modF F A) (F .n) (remF F A (gOf F)) (g-round F A) fresh-is a b l q (turn-registers a b e))
+      go (no l) (yes r) = absurd (one-turn (modF F A) (F .n) (remF F A (gOf F)) (g-round F A) fresh-is b a r p (turn-registers b a (sym e)))
+      go (no l) (no r) = omega arith
+
+  -- no turn below n has the remainder 0
+  pub turn-never : (a : ℕ) → a < F .n → turnRemainder F a ≡ zeros 10 → ⊥
+  turn-never a p e =
+      let M = modF F A in
+      let g = remF F A (gOf F) in
+      let nil : pow M a g ≡ none 10 = same-bits (sym (turn-is F A a) ∙ e) in
+      let back : F .n - a + a ≡ F .n = omega arith in
+      let zero-g : g ≡ none 10 =
+      sym (g-round F A) ∙ ap (λ (j : ℕ). pow M j g) (sym back) ∙ pow-add M (F .n - a) a g ∙ ap (pow M (F .n - a)) nil ∙ pow-nil M (F .n - a) in
+      fresh-is 1 (lit< tt) (A .many) (ap (pow M 1) zero-g ∙ pow-nil M 1 ∙ sym zero-g)
+
+-- one turn more is one step more
+pub turn-next : (F : Numbers) (s : ℕ) → turnRemainder F (suc s) ≡ step (drop 1 (fOf F)) (turnRemainder F s) 0
+unfolding turnRemainder
+turn-next F s =
+    ap (remainder (fOf F)) (ap (λ (v : List ℕ). gOf F ++ v) (zeros-last s) ∙ sym (append-assoc (gOf F) (zeros s) (0 ∷ [])))
+    ∙ remainder-next (fOf F) (gOf F ++ zeros s) 0
+
+-- a search never answers both a turn and none
+at-nothing : {t : ℕ} → At t ≡ Nothing → ⊥
+at-nothing {t} e = let z : _≡_ {A = ℕ} 0 1 = cc in omega arith
+
+-- what a search answers is among those searched, and leaves v
+found-among : (F : Numbers) (k s t : ℕ) (v : List ℕ) → turnAmong F k s v ≡ At t → (s ≤ t) × (t < s + k) × (turnRemainder F t ≡ v)
+unfolding turnAmong
+found-among F zero s t v e = absurd (at-nothing (sym e))
+found-among F (suc k) s t v e = go (same (turnRemainder F s) v) refl (found-among F k (suc s) t v) e
+  where
+    go : (b : Bool) → same (turnRemainder F s) v ≡ b
+        → (turnAmong F k (suc s) v ≡ At t → (suc s ≤ t) × (t < suc s + k) × (turnRemainder F t ≡ v))
+        → pickTurn b (At s) (turnAmong F k (suc s) v) ≡ At t → (s ≤ t) × (t < s + suc k) × (turnRemainder F t ≡ v)
+    go true test below e =
+        let at : s ≡ t = cc in
+        (omega arith, omega arith, ap (turnRemainder F) (sym at) ∙ same-equal (turnRemainder F s) v (subst T (sym test) tt))
+    go false test below e = let r = below e in (omega (arith, r .0), omega (arith, r .1), r .2)
+
+-- a search that answers none has none among those searched
+none-among : (F : Numbers) (k s t : ℕ) (v : List ℕ) → turnAmong F k s v ≡ Nothing → s ≤ t → t < s + k → turnRemainder F t ≡ v → ⊥
+unfolding turnAmong
+none-among F zero s t v e l h r = omega arith
+none-among F (suc k) s t v e l h r = go (same (turnRemainder F s) v) refl (none-among F k (suc s) t v) e
+  where
+    go : (b : Bool) → same (turnRemainder F s) v ≡ b
+        → (turnAmong F k (suc s) v ≡ Nothing → suc s ≤ t → t < suc s + k → turnRemainder F t ≡ v → ⊥)
+        → pickTurn b (At s) (turnAmong F k (suc s) v) ≡ Nothing → ⊥
+    go true test below e = at-nothing e
+    go false test below e =
+        let apart : s ≡ t → ⊥ = λ (at : s ≡ t).
+        subst T test (subst (λ (x : List ℕ). T (same (turnRemainder F s) x)) (ap (turnRemainder F) at ∙ r) (same-refl (turnRemainder F s))) in
+        below e (omega arith) (omega arith) r
+
+-- the turn that is answered is below n and leaves v
+pub turnOf-at : (F : Numbers) (t : ℕ) (v : List ℕ) → turnOf F v ≡ At t → (t < F .n) × (turnRemainder F t ≡ v)
+unfolding turnOf
+turnOf-at F t v e = let r = found-among F (F .n) 0 t v e in (omega (arith, r .1), r .2)
+
+-- where none is answered, none below n leaves v
+pub turnOf-nothing : (F : Numbers) (v : List ℕ) → turnOf F v ≡ Nothing → (t : ℕ) → t < F .n → turnRemainder F t ≡ v → ⊥
+unfolding turnOf
+turnOf-nothing F v e t h r = none-among F (F .n) 0 t v e (omega arith) (omega arith) r
+
+-- from the remainder at a turn, that turn is answered
+pub turnOf-turn : (F : Numbers) → Facts F → (t : ℕ) → t < F .n → turnOf F (turnRemainder F t) ≡ At t
+turnOf-turn F A t h = go (turnOf F (turnRemainder F t)) refl
+  where
+    go : (o : Turn) → turnOf F (turnRemainder F t) ≡ o → turnOf F (turnRemainder F t) ≡ At t
+    go (At s) e =
+        let r = turnOf-at F s (turnRemainder F t) e in
+        e ∙ ap At (turn-unique F A s t (r .0) h (r .1))
+    go Nothing e = absurd (turnOf-nothing F (turnRemainder F t) e t h refl)
