@@ -1,5 +1,6 @@
 pub mod AllBits
 pub mod Both
+pub mod First
 pub mod Flipped
 pub mod Numbers
 pub mod Rest
