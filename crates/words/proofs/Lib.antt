@@ -1,0 +1,6 @@
+pub mod Lists
+pub mod Rules
+pub mod Numbers
+pub mod InverseTable
+pub mod Groups
+pub mod Ranks

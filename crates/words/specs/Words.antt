@@ -1,0 +1,77 @@
+-- The words (document 01, "Words"): the word of a number, the number of a word, and the barred words.
+-- Assumes nothing.
+use Prim.Native.Nat.{ℕ, zero, suc, _/_, _%_, _^_}
+use mathlib.Core.Bool.{Bool, true, false}
+use mathlib.Core.List.{List, [], _∷_}
+use lib.Dec.{eqb, ltb}
+use lib.ListN.{getD}
+use Rattle.bits.specs.Bits.{both}
+use Rattle.words.specs.declared.Lookup.{Lookup}
+use Rattle.words.specs.declared.Lookup.the-variants.{Number, NotInTable}
+use Rattle.words.specs.Table.{table}
+
+-- the word of the number i: entry i of the table
+unfoldable pub wordOf : ℕ → ℕ
+wordOf i = getD table i 0
+
+abbrev pub pickLookup : Bool → Lookup → Lookup → Lookup
+pickLookup true a b = a
+pickLookup false a b = b
+
+-- the place of the word w in the list, counted from i
+unfoldable pub lookupFrom : ℕ → List ℕ → ℕ → Lookup
+lookupFrom i [] w = NotInTable
+lookupFrom i (x ∷ xs) w = pickLookup (eqb x w) (Number i) (lookupFrom (suc i) xs w)
+
+-- the number of the word w, found by walking the table from the front
+unfoldable pub lookupOf : ℕ → Lookup
+lookupOf w = lookupFrom 0 table w
+
+-- at least one of two tests holds
+abbrev pub either : Bool → Bool → Bool
+either true b = true
+either false b = b
+
+-- an eleven-bit word begins, or ends, with these five bits
+abbrev pub beginsWith : ℕ → ℕ → Bool
+beginsWith five w = eqb (w / 2 ^ 6) five
+
+abbrev pub endsWith : ℕ → ℕ → Bool
+endsWith five w = eqb (w % 2 ^ 5) five
+
+-- the group of 250: begins or ends with 00000 or 11111, or is 10000000001 or its flip 01111111110
+unfoldable pub inGroup250 : ℕ → Bool
+inGroup250 w =
+    both (ltb w (2 ^ 11))
+    (either (beginsWith 0b00000 w)
+    (either (beginsWith 0b11111 w)
+    (either (endsWith 0b00000 w)
+    (either (endsWith 0b11111 w)
+    (either (eqb w 0b10000000001)
+    (eqb w 0b01111111110))))))
+
+-- the group of 20: ten words, and then their flips
+unfoldable pub barred20 : List ℕ
+barred20 =
+    0b01010101010 ∷ 0b00100100100 ∷ 0b01001001001 ∷ 0b10010010010 ∷ 0b00010001000 ∷
+    0b00100010001 ∷ 0b01000100010 ∷ 0b10001000100 ∷ 0b00110011001 ∷ 0b01100110011 ∷
+    0b10101010101 ∷ 0b11011011011 ∷ 0b10110110110 ∷ 0b01101101101 ∷ 0b11101110111 ∷
+    0b11011101110 ∷ 0b10111011101 ∷ 0b01110111011 ∷ 0b11001100110 ∷ 0b10011001100 ∷
+    []
+
+-- the word is one of the list
+unfoldable pub among : ℕ → List ℕ → Bool
+among w [] = false
+among w (x ∷ xs) = either (eqb x w) (among w xs)
+
+unfoldable pub inGroup20 : ℕ → Bool
+inGroup20 w = among w barred20
+
+abbrev pub oneMoreIf : Bool → ℕ → ℕ
+oneMoreIf true n = suc n
+oneMoreIf false n = n
+
+-- how many of the numbers below n pass the test
+unfoldable pub howMany : (ℕ → Bool) → ℕ → ℕ
+howMany test zero = 0
+howMany test (suc n) = oneMoreIf (test n) (howMany test n)
