@@ -1,10 +1,11 @@
 // Bits, one to a byte, earliest sent first: the test that every byte is 0 or 1, the number of
-// some consecutive bits, and the flip.
+// some consecutive bits, the bits of a number, and the flip.
 ghost use mathlib.Core.Path.{_≡_};
 ghost use Prim.Native.Nat.{_+_, _≤_, _<_};
+ghost use mathlib.Core.List.{_++_};
 ghost use lib.Dec.{T};
 ghost use lib.ListN.{length, take, drop};
-ghost use Rattle.bits.specs.Bits.{allBits, numberOf, flip};
+ghost use Rattle.bits.specs.Bits.{allBits, numberOf, bitsOf, flip};
 
 // Whether every byte of s is 0 or 1.
 pub fn all_bits(s: &[u8]) -> bool
@@ -32,6 +33,18 @@ pub fn number(s: &[u8], at: usize, k: usize) -> u32
         i += 1;
     }
     x
+}
+
+// Writes the lowest k binary digits of x into the front of out, the highest of them first.
+pub fn write_number(out: &mut [u8], k: usize, x: u32)
+    requires { ⌜ (k ≤ 32) × (k ≤ length (now out)) ⌝ }
+    ensures { λ _. ⌜ now (out .exit) ≡ bitsOf k x ++ drop k (now (out .entry)) ⌝ }
+{
+    let mut i = 0;
+    while i < k {
+        out[i] = ((x >> (k - (i + 1))) % 2) as u8;
+        i += 1;
+    }
 }
 
 // Turns each bit of s into the other.

@@ -1,0 +1,2 @@
+pub mod Scrambling
+pub mod Sum
