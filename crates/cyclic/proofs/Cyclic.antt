@@ -17,7 +17,7 @@ use Rattle.cyclic.proofs.Lists.{Bits, zeros, length-zeros, bits-zeros, 
 use Rattle.cyclic.proofs.Space.{Space, times, pow, times-times, times-nil, times-sum, times-one, pow-times, equal-of-nil, unit-right, turn, run-append, zeros-front, zeros-back}
 use Rattle.cyclic.proofs.Products.{times-product, bits-product, times-zeros, two-terms, bits-polynomial}
 use Rattle.cyclic.proofs.Registers.{Reg, same-bits, Monic, By, rem, remainder-is, one, none}
-use Rattle.cyclic.proofs.Division.{short, rem-itself, quotient, quotient-bits, through, whole}
+use Rattle.cyclic.proofs.Quotients.{short, rem-itself, quotient, quotient-bits, through, whole}
 use Rattle.cyclic.proofs.Remainders.{remainder-bits}
 use Rattle.cyclic.proofs.Facts.{Facts}
 

@@ -16,7 +16,7 @@ use Rattle.bits.proofs.AllBits.{allBits-append}
 use Rattle.cyclic.proofs.Lists.{bits-zeros, bits-sum, length-sum}
 use Rattle.cyclic.proofs.Space.{pow, times-append, pow-nil, pow-add, other, twice, run-append, zeros-back}
 use Rattle.cyclic.proofs.Registers.{Reg, same-bits, remainder-is, one, none}
-use Rattle.cyclic.proofs.Division.{rem-short}
+use Rattle.cyclic.proofs.Quotients.{rem-short}
 use Rattle.cyclic.proofs.Cyclic.{f-divides, g-divides, fg-divides, of-remainder, rem-turned, flipped, modF, modG, modFG, remF, remG, remFG, padded-is, turn-is, g-round, by-both, g-of-fg, f-of-fg}
 pub use Rattle.cyclic.proofs.Cyclic.{bits-padded, length-padded}
 pub use Rattle.cyclic.proofs.Lists.{Bits, zeros, bits-turned, length-turned, turned-back, flip-turned}

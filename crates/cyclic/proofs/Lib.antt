@@ -2,10 +2,11 @@ pub mod Lists
 pub mod Space
 pub mod Products
 pub mod Registers
-pub mod Division
+pub mod Quotients
 pub mod Remainders
 pub mod Facts
 pub mod Cyclic
 pub mod Turns
 pub mod Rounds
 pub mod Laws
+pub mod Machine

@@ -11,7 +11,7 @@ use Rattle.cyclic.specs.Remainder.{step, remainderFrom, remainder}
 use Rattle.bits.proofs.AllBits.{allBits-head, allBits-tail, allBits-drop}
 use Rattle.cyclic.proofs.Lists.{Bits, zeros, length-zeros, bits-zeros, sum-self}
 use Rattle.cyclic.proofs.Registers.{bits-step, length-step, step-sum}
-use Rattle.cyclic.proofs.Division.{from-append}
+use Rattle.cyclic.proofs.Quotients.{from-append}
 
 -- a division from bits ends in bits
 bits-from : (t s v : List ℕ) → Bits s → Bits v → Bits (remainderFrom t s v)

@@ -12,7 +12,7 @@ use Rattle.cyclic.proofs.Lists.{Bits, zeros}
 use Rattle.cyclic.proofs.Space.{Space, times, pow, times-nil, times-one, zeros-front}
 use Rattle.cyclic.proofs.Products.{times-product, bits-product, bits-polynomial, rounds}
 use Rattle.cyclic.proofs.Registers.{Reg, same-bits, By, remainder-is, one, none}
-use Rattle.cyclic.proofs.Division.{quotient, whole}
+use Rattle.cyclic.proofs.Quotients.{quotient, whole}
 use Rattle.cyclic.proofs.Facts.{longFacts, shortFacts, long-g-divides, long-f-divides}
 
 -- x^682+x^341+1
