@@ -3,7 +3,9 @@ pub mod Both
 pub mod First
 pub mod Flipped
 pub mod Numbers
+pub mod Parts
 pub mod Rest
 pub mod Ring
+pub mod Tests
 pub mod Writer
 pub mod Xor

@@ -9,4 +9,6 @@ pub mod Cyclic
 pub mod Turns
 pub mod Rounds
 pub mod Laws
+pub mod Same
+pub mod Formats
 pub mod Machine

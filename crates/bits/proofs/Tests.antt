@@ -1,0 +1,28 @@
+-- Tests as values: a test that holds is true, one that fails is false, and two that hold together are one. Assumes nothing.
+use mathlib.Core.Path.{_≡_, refl, sym, subst}
+use mathlib.Core.Bool.{Bool, true, false}
+use lib.Dec.{T}
+use Rattle.bits.specs.Bits.{both}
+
+pub is-true : (t : Bool) → T t → t ≡ true
+is-true true h = refl
+is-true false h = absurd h
+
+pub is-false : (t : Bool) → (T t → ⊥) → t ≡ false
+is-false true h = absurd (h tt)
+is-false false h = refl
+
+pub holds : (t : Bool) → t ≡ true → T t
+holds t e = subst T (sym e) tt
+
+pub fails : (t : Bool) → t ≡ false → T t → ⊥
+fails t e h = subst T e h
+
+-- two tests of which each follows from the other
+pub tests-agree : (s t : Bool) → (T s → T t) → (T t → T s) → s ≡ t
+tests-agree true t p q = sym (is-true t (p tt))
+tests-agree false t p q = sym (is-false t q)
+
+pub both-assoc : (a b c : Bool) → both (both a b) c ≡ both a (both b c)
+both-assoc true b c = refl
+both-assoc false b c = refl

@@ -1,0 +1,7 @@
+-- `Words` and `Shaping` have the words and their blocks, `Made` the telegram made from its fields, `WellFormed` the telegram that
+-- is well-formed, `Checked` the check bits.
+pub mod Words
+pub mod Shaping
+pub mod Made
+pub mod Checked
+pub mod WellFormed

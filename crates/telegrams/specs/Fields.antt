@@ -1,0 +1,68 @@
+-- The fields of a telegram, and when it is well-formed (document 01, "The telegram, left to right").
+-- b is b(n-1) to b0, so b(i) stands at place n-1-i of the list.
+-- Assumes nothing.
+use Prim.Native.Nat.{ℕ, zero, suc, _-_}
+use mathlib.Core.Bool.{Bool, true, false}
+use mathlib.Core.List.{List, [], _++_}
+use lib.Dec.{eqb}
+use lib.ListN.{length, take, drop}
+use Rattle.bits.specs.Bits.{both, allBits, numberOf, bitsOf}
+use Rattle.formats.specs.Numbers.{Numbers, blocks}
+use Rattle.words.specs.declared.Lookup.{Lookup}
+use Rattle.words.specs.declared.Lookup.the-variants.{Number, NotInTable}
+use Rattle.words.specs.Words.{lookupOf}
+use Rattle.scrambling.specs.Scrambling.{descrambled}
+use Rattle.scrambling.specs.Sum.{withoutSum}
+use Rattle.cyclic.specs.Check.{checkBits, same}
+use Rattle.telegrams.specs.Telegram.{control}
+
+-- b109 to b107
+unfoldable pub controlOf : Numbers → List ℕ → List ℕ
+controlOf F b = take 3 (drop (F .n - 110) b)
+
+-- b106 to b95 as a number
+unfoldable pub scramblingOf : Numbers → List ℕ → ℕ
+scramblingOf F b = numberOf (take 12 (drop (F .n - 107) b))
+
+-- b94 to b85 as a number
+unfoldable pub shapingOf : Numbers → List ℕ → ℕ
+shapingOf F b = numberOf (take 10 (drop (F .n - 95) b))
+
+-- the number of a word that the table has, else 0
+abbrev pub numberIn : Lookup → ℕ
+numberIn (Number i) = i
+numberIn NotInTable = 0
+
+-- the ten bits of the number of each of the next k words
+unfoldable pub unshaped : ℕ → List ℕ → List ℕ
+unshaped zero b = []
+unshaped (suc k) b = bitsOf 10 (numberIn (lookupOf (numberOf (take 11 b)))) ++ unshaped k (drop 11 b)
+
+-- the user bits
+unfoldable pub userBitsOf : Numbers → List ℕ → List ℕ
+userBitsOf F b = withoutSum (blocks F) (descrambled (scramblingOf F b) (unshaped (blocks F) b))
+
+abbrev pub isNumber : Lookup → Bool
+isNumber (Number i) = true
+isNumber NotInTable = false
+
+-- the eleven bits are a word of the table
+unfoldable pub isWord : List ℕ → Bool
+isWord w = isNumber (lookupOf (numberOf w))
+
+-- the next k words are all in the table
+unfoldable pub allWords : ℕ → List ℕ → Bool
+allWords zero b = true
+allWords (suc k) b = both (isWord (take 11 b)) (allWords k (drop 11 b))
+
+-- b84 to b0 are the check bits of what stands before them
+unfoldable pub checked : Numbers → List ℕ → Bool
+checked F b = same (drop (F .n - 85) b) (checkBits F (take (F .n - 85) b))
+
+-- n bits; control 0, 0, 1; every word in the table, the last ten too; the check bits
+unfoldable pub wellFormed : Numbers → List ℕ → Bool
+wellFormed F b =
+    both (both (eqb (length b) (F .n)) (allBits b))
+    (both (same (controlOf F b) control)
+    (both (allWords (F .words) b)
+    (checked F b)))

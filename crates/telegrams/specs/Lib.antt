@@ -1,0 +1,2 @@
+pub mod Telegram
+pub mod Fields

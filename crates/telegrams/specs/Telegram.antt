@@ -1,0 +1,36 @@
+-- The telegram made from a block of user bits, the scrambling bits' number B and the extra shaping bits' number
+-- (document 01, "The telegram, left to right").
+-- Assumes nothing.
+use Prim.Native.Nat.{ℕ, zero, suc}
+use mathlib.Core.List.{List, [], _∷_, _++_}
+use lib.ListN.{take, drop}
+use Rattle.bits.specs.Bits.{numberOf, bitsOf}
+use Rattle.formats.specs.Numbers.{Numbers, blocks}
+use Rattle.words.specs.Words.{wordOf}
+use Rattle.scrambling.specs.Scrambling.{scrambled}
+use Rattle.scrambling.specs.Sum.{withSum}
+use Rattle.cyclic.specs.Check.{checkBits}
+
+-- each of the next k blocks of ten bits, as a number i, becomes entry i of the table
+unfoldable pub shaped : ℕ → List ℕ → List ℕ
+shaped zero v = []
+shaped (suc k) v = bitsOf 11 (wordOf (numberOf (take 10 v))) ++ shaped k (drop 10 v)
+
+-- b(n-1) to b110: the shaped data
+unfoldable pub shapedData : Numbers → List ℕ → ℕ → List ℕ
+shapedData F u B = shaped (blocks F) (scrambled B (withSum (blocks F) u))
+
+-- b109 to b107
+abbrev pub control : List ℕ
+control = 0 ∷ 0 ∷ 1 ∷ []
+
+-- b109 to b85: control bits, scrambling bits, extra shaping bits
+unfoldable pub settings : ℕ → ℕ → List ℕ
+settings B esb = control ++ (bitsOf 12 B ++ bitsOf 10 esb)
+
+-- what stands before the check bits
+unfoldable pub unchecked : Numbers → List ℕ → ℕ → ℕ → List ℕ
+unchecked F u B esb = shapedData F u B ++ settings B esb
+
+unfoldable pub telegramOf : Numbers → List ℕ → ℕ → ℕ → List ℕ
+telegramOf F u B esb = unchecked F u B esb ++ checkBits F (unchecked F u B esb)
