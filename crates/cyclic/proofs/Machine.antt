@@ -6,3 +6,4 @@ pub mod Running
 pub mod Divisors
 pub mod Lists
 pub mod Turns
+pub mod Tests

@@ -11,7 +11,7 @@ use formats::format;
 use formats::format::Format;
 
 // The remainder of g by f, that of turn 0.
-fn unturned(format: Format) -> u64
+pub fn unturned(format: Format) -> u64
     ensures { λ r. ⌜ r ≡ numberOf (turnRemainder (numbersOf format) 0) ⌝ }
 {
     match format {

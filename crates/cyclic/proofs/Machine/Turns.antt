@@ -6,12 +6,11 @@ use Prim.Native.Nat.{ℕ, suc, _+_, _-_, _^_, _<_, _≤_}
 use native.Mathlib.Nat.{mod-eq-of-lt}
 use native.Mathlib.Numerals.{add-one}
 use native.Mathlib.Omega.{arith}
-use borrow.Author.Tests.{eq-eqb}
-use lib.Dec.{T, eqb, eqb→eq, lit<}
+use lib.Dec.{T, lit<}
 use lib.ListN.{length, drop, replicate, replicate-append-replicate}
-use Rattle.bits.specs.Bits.{both, allBits, numberFrom, numberOf, bitsOf}
+use Rattle.bits.specs.Bits.{allBits, numberFrom, numberOf, bitsOf}
 use Rattle.bits.proofs.AllBits.{allBits-append}
-use Rattle.bits.proofs.Both.{both-left, both-right}
+use Rattle.bits.proofs.Tests.{is-false}
 use Rattle.bits.proofs.Numbers.{numberOf-below, numberOf-bitsOf}
 use Rattle.formats.specs.declared.format.Format.{Format}
 use Rattle.formats.specs.declared.format.Format.the-variants.{Long, Short}
@@ -21,28 +20,10 @@ use Rattle.cyclic.specs.declared.Turn.the-variants.{At, Nothing}
 use Rattle.cyclic.specs.Check.{turnRemainder, same, pickTurn, turnAmong, turnOf}
 use Rattle.cyclic.specs.Machine.{stepV}
 use Rattle.cyclic.specs.Remainder.{remainder, remainderFrom, step}
+use Rattle.cyclic.proofs.Same.{same-equal, equal-same}
 use Rattle.cyclic.proofs.Machine.Bridge.{run-append, step-number}
 use Rattle.cyclic.proofs.Machine.Divisors.{f-monic, divisor-degree}
 use Rattle.cyclic.proofs.Machine.Lists.{allBits-zeros, allBits-remainder, length-remainder, remainder-list}
-
--- the test for the same lists
-same-refl : (u : List ℕ) → same u u ≡ true
-unfolding same
-same-refl [] = refl
-same-refl (a ∷ u) = ap₂ both (eq-eqb a a refl) (same-refl u)
-
-same-lists : (u v : List ℕ) → T (same u v) → u ≡ v
-unfolding same
-same-lists [] [] h = refl
-same-lists [] (b ∷ v) h = absurd h
-same-lists (a ∷ u) [] h = absurd h
-same-lists (a ∷ u) (b ∷ v) h =
-    ap₂ _∷_ (eqb→eq a b (both-left (eqb a b) (same u v) h)) (same-lists u v (both-right (eqb a b) (same u v) h))
-
--- a test that cannot hold
-refuted : (b : Bool) → (T b → ⊥) → b ≡ false
-refuted true h = absurd (h tt)
-refuted false h = refl
 
 -- g has bits only
 allBits-g : (x : Format) → T (allBits (gOf (numbersOf x)))
@@ -93,12 +74,12 @@ module _ (x : Format) (s : ℕ) {w : ℕ} (e : w ≡ numberOf (turnRemainder (nu
   -- the test of turn s, where the number that is looked for is w, and where it is not
   hit : {r : ℕ} → w ≡ r → same (turnRemainder (numbersOf x) s) (bitsOf 10 r) ≡ true
   hit {r} h =
-      ap (λ (u : List ℕ). same u (bitsOf 10 r)) (sym turn-list ∙ ap (bitsOf 10) h) ∙ same-refl (bitsOf 10 r)
+      ap (λ (u : List ℕ). same u (bitsOf 10 r)) (sym turn-list ∙ ap (bitsOf 10) h) ∙ equal-same (bitsOf 10 r) (bitsOf 10 r) refl
 
   missed : {r : ℕ} → r < 2 ^ 10 → (w ≡ r → ⊥) → same (turnRemainder (numbersOf x) s) (bitsOf 10 r) ≡ false
   missed {r} fits other =
-      refuted (same (turnRemainder (numbersOf x) s) (bitsOf 10 r))
-      (λ t. other (e ∙ ap numberOf (same-lists (turnRemainder (numbersOf x) s) (bitsOf 10 r) t) ∙ numberOf-bitsOf 10 r ∙ mod-eq-of-lt fits))
+      is-false (same (turnRemainder (numbersOf x) s) (bitsOf 10 r))
+      (λ t. other (e ∙ ap numberOf (same-equal (turnRemainder (numbersOf x) s) (bitsOf 10 r) t) ∙ numberOf-bitsOf 10 r ∙ mod-eq-of-lt fits))
 
 -- The loop's numbers are those of the format x: f, the telegram's bits, and the remainder of turn 0.
 pub record Serves (x : Format) (divisor n first : ℕ) : Type 0 where
