@@ -14,13 +14,13 @@ use Rattle.cyclic.proofs.Registers.{bits-step, length-step, step-sum}
 use Rattle.cyclic.proofs.Quotients.{from-append}
 
 -- a division from bits ends in bits
-bits-from : (t s v : List ℕ) → Bits s → Bits v → Bits (remainderFrom t s v)
+pub bits-from : (t s v : List ℕ) → Bits s → Bits v → Bits (remainderFrom t s v)
 unfolding remainderFrom
 bits-from t s [] hs hv = hs
 bits-from t s (b ∷ v) hs hv = bits-from t (step t s b) v (bits-step t s b (allBits-head b v hv) hs) (allBits-tail b v hv)
 
 -- as many as the divisor has
-length-from : (t s v : List ℕ) → length s ≡ length t → length (remainderFrom t s v) ≡ length t
+pub length-from : (t s v : List ℕ) → length s ≡ length t → length (remainderFrom t s v) ≡ length t
 unfolding remainderFrom
 length-from t s [] l = l
 length-from t s (b ∷ v) l = length-from t (step t s b) v (length-step t s b l ∙ l)

@@ -17,6 +17,7 @@ use Rattle.bits.proofs.Numbers.{numberFrom-append, numberOf-cons, numberOf-belo
 use Rattle.formats.specs.Polynomial.{sum}
 use Rattle.cyclic.specs.Machine.{stepV, reducedV}
 use Rattle.cyclic.specs.Remainder.{step, remainderFrom}
+use Rattle.cyclic.proofs.Registers.{bits-step, length-step}
 use Rattle.cyclic.proofs.Machine.Sums.{allBits-sum, length-sum, value-sum}
 
 -- the register after a run of bits, as a number
@@ -33,24 +34,12 @@ pub stepV-reached : (d p v b : ℕ) → p ≤ v * 2 + b → stepV d p v b ≡ bi
 unfolding stepV
 stepV-reached d p v b h = ap (λ (t : Bool). reducedV t d (v * 2 + b)) (le-leb p (v * 2 + b) h)
 
--- the register after a step has bits only, and as many
+-- the register that is shifted has bits only, and one more
 length-shifted : (s : List ℕ) (b : ℕ) → length (s ++ (b ∷ [])) ≡ suc (length s)
 length-shifted s b = length-append s (b ∷ []) ∙ omega arith
 
 allBits-shifted : (s : List ℕ) (b : ℕ) → T (allBits s) → b < 2 → T (allBits (s ++ (b ∷ [])))
 allBits-shifted s b hs hb = allBits-append s (b ∷ []) hs (allBits-cons b [] hb allBits-nil)
-
-pub allBits-step : (t s : List ℕ) (b : ℕ) → T (allBits s) → b < 2 → T (allBits (step t s b))
-unfolding step
-allBits-step t [] b hs hb = allBits-nil
-allBits-step t (zero ∷ s) b hs hb = allBits-shifted s b (allBits-tail zero s hs) hb
-allBits-step t (suc c ∷ s) b hs hb = allBits-sum (s ++ (b ∷ [])) t
-
-pub length-step : (t s : List ℕ) (b : ℕ) → length t ≡ length s → length (step t s b) ≡ length s
-unfolding step
-length-step t [] b e = refl
-length-step t (zero ∷ s) b e = length-shifted s b
-length-step t (suc c ∷ s) b e = length-sum (s ++ (b ∷ [])) t (length-shifted s b ∙ sym e) ∙ length-shifted s b
 
 -- the number of the register that is shifted, with the bit that goes out still there
 shifted : (c : ℕ) (s : List ℕ) (b : ℕ) → numberOf (c ∷ s) * 2 + b ≡ c * 2 ^ suc (length s) + numberOf (s ++ (b ∷ []))
@@ -100,22 +89,6 @@ step-value t (zero ∷ s) b ht hs e hb = step-zero (numberOf (1 ∷ t)) s b (all
 step-value t (suc zero ∷ s) b ht hs e hb = step-one t s b ht (allBits-tail 1 s hs) e hb
 step-value t (suc (suc c) ∷ s) b ht hs e hb = absurd (omega (arith, allBits-head (suc (suc c)) s hs))
 
--- a whole run has bits only, and as many
-pub allBits-run : (t s v : List ℕ) → T (allBits s) → T (allBits v) → T (allBits (remainderFrom t s v))
-unfolding remainderFrom
-allBits-run t s [] hs hv = hs
-allBits-run t s (b ∷ v) hs hv = allBits-run t (step t s b) v (allBits-step t s b hs (allBits-head b v hv)) (allBits-tail b v hv)
-
-pub length-run : (t s v : List ℕ) → length t ≡ length s → length (remainderFrom t s v) ≡ length s
-unfolding remainderFrom
-length-run t s [] e = refl
-length-run t s (b ∷ v) e = length-run t (step t s b) v (e ∙ sym (length-step t s b e)) ∙ length-step t s b e
-
-pub run-append : (t s u v : List ℕ) → remainderFrom t s (u ++ v) ≡ remainderFrom t (remainderFrom t s u) v
-unfolding remainderFrom
-run-append t s [] v = refl
-run-append t s (b ∷ u) v = run-append t (step t s b) u v
-
 -- a whole run, for every degree
 pub run-value : (t s v : List ℕ) → T (allBits t) → T (allBits s) → T (allBits v) → length t ≡ length s
     → numberOf (remainderFrom t s v) ≡ runV (numberOf (1 ∷ t)) (2 ^ length s) (numberOf s) v
@@ -123,8 +96,8 @@ unfolding remainderFrom runV
 run-value t s [] ht hs hv e = refl
 run-value t s (b ∷ v) ht hs hv e =
     let hb = allBits-head b v hv in
-    let e′ = length-step t s b e in
-    run-value t (step t s b) v ht (allBits-step t s b hs hb) (allBits-tail b v hv) (e ∙ sym e′)
+    let e′ = length-step t s b (sym e) in
+    run-value t (step t s b) v ht (bits-step t s b hb hs) (allBits-tail b v hv) (e ∙ sym e′)
     ∙ ap₂ (λ (k x : ℕ). runV (numberOf (1 ∷ t)) (2 ^ k) x v) e′ (step-value t s b ht hs e hb)
 
 -- The same by numbers: a divisor d of degree k, and a register x below 2^k.
@@ -149,8 +122,8 @@ module _ (k d x : ℕ) (degree : d / 2 ^ k ≡ 1) (fits : x < 2 ^ k) where
   pub step-fits : (b : ℕ) → b < 2 → stepV d (2 ^ k) x b < 2 ^ k
   step-fits b hb =
       let after = step (bitsOf k d) (bitsOf k x) b in
-      subst₂ (λ (y j : ℕ). y < 2 ^ j) (sym (step-number b hb)) (length-step (bitsOf k d) (bitsOf k x) b same-length ∙ length-bitsOf k x)
-      (numberOf-below after (allBits-step (bitsOf k d) (bitsOf k x) b (allBits-bitsOf k x) hb))
+      subst₂ (λ (y j : ℕ). y < 2 ^ j) (sym (step-number b hb)) (length-step (bitsOf k d) (bitsOf k x) b (sym same-length) ∙ length-bitsOf k x)
+      (numberOf-below after (bits-step (bitsOf k d) (bitsOf k x) b hb (allBits-bitsOf k x)))
 
   pub run-number : (v : List ℕ) → T (allBits v) → runV d (2 ^ k) x v ≡ numberOf (remainderFrom (bitsOf k d) (bitsOf k x) v)
   run-number v hv =

@@ -16,7 +16,8 @@ use Rattle.formats.specs.Numbers.{numbersOf, gOf, fgOf}
 use Rattle.formats.specs.Polynomial.{polynomial, coefficientsBelow, coefficientOf, sum}
 use Rattle.cyclic.specs.Check.{gPadded, checkBits}
 use Rattle.cyclic.specs.Remainder.{remainder, remainderFrom}
-use Rattle.cyclic.proofs.Machine.Bridge.{allBits-run, length-run, run-append}
+use Rattle.cyclic.proofs.Quotients.{from-append}
+use Rattle.cyclic.proofs.Remainders.{bits-from, length-from}
 use Rattle.cyclic.proofs.Machine.Divisors.{Monic, zero-bits, fg-monic}
 use Rattle.cyclic.proofs.Machine.Sums.{allBits-sum, length-sum, value-sum}
 
@@ -38,16 +39,16 @@ module _ {k : ℕ} {d : List ℕ} (m : Monic k d) where
   -- a register of k bits after the bits of v: bits again, k of them, and those of its number
   module _ (s v : List ℕ) (hs : T (allBits s)) (size : length s ≡ k) (hv : T (allBits v)) where
     pub length-register : length (remainderFrom (drop 1 d) s v) ≡ k
-    length-register = length-run (drop 1 d) s v (length-rest ∙ sym size) ∙ size
+    length-register = length-from (drop 1 d) s v (size ∙ sym length-rest) ∙ length-rest
 
     pub register-list : {y : ℕ} → y ≡ numberOf (remainderFrom (drop 1 d) s v) → bitsOf k y ≡ remainderFrom (drop 1 d) s v
-    register-list e = ap (bitsOf k) e ∙ bitsOf-numberOf k (remainderFrom (drop 1 d) s v) (allBits-run (drop 1 d) s v hs hv) length-register
+    register-list e = ap (bitsOf k) e ∙ bitsOf-numberOf k (remainderFrom (drop 1 d) s v) (bits-from (drop 1 d) s v hs hv) length-register
 
   -- a remainder: bits, k of them, and those of its number
   module _ (v : List ℕ) (hv : T (allBits v)) where
     pub allBits-remainder : T (allBits (remainder d v))
     unfolding remainder
-    allBits-remainder = allBits-run (drop 1 d) (replicate (length d - 1) 0) v (allBits-zeros (length d - 1)) hv
+    allBits-remainder = bits-from (drop 1 d) (replicate (length d - 1) 0) v (allBits-zeros (length d - 1)) hv
 
     pub length-remainder : length (remainder d v) ≡ k
     unfolding remainder
@@ -67,7 +68,7 @@ module _ {k : ℕ} {d : List ℕ} (m : Monic k d) where
 -- the remainder of bits after bits
 pub remainder-append : (d u v : List ℕ) → remainder d (u ++ v) ≡ remainderFrom (drop 1 d) (remainder d u) v
 unfolding remainder
-remainder-append d u v = run-append (drop 1 d) (replicate (length d - 1) 0) u v
+remainder-append d u v = from-append (drop 1 d) (replicate (length d - 1) 0) u v
 
 -- g with 85 coefficients
 pub length-padded : (x : Format) → length (gPadded (numbersOf x)) ≡ 85

@@ -1,29 +1,18 @@
--- The sum of two polynomials, its bits, and its number: the XOR of the two numbers. Assumes nothing.
+-- The number of the sum of two polynomials is the XOR of the two numbers. Assumes nothing.
 use mathlib.Core.Path.{_≡_, refl, sym, ap, ap₂, _∙_, subst}
 use mathlib.Core.List.{List, [], _∷_}
-use Prim.Native.Nat.{ℕ, suc, _+_, _*_, _%_, _^_, _<_}
+use Prim.Native.Nat.{ℕ, _+_, _*_, _%_, _^_, _<_}
 use native.Mathlib.Nat.{suc-inj}
 use native.Mathlib.Omega.{arith}
 use lib.Bits.{bitXor, xor-block}
 use lib.Dec.{T}
 use lib.ListN.{length}
 use Rattle.bits.specs.Bits.{allBits, numberFrom, numberOf}
-use Rattle.bits.proofs.AllBits.{allBits-nil, allBits-cons, allBits-head, allBits-tail}
+use Rattle.bits.proofs.AllBits.{allBits-head, allBits-tail}
 use Rattle.bits.proofs.Numbers.{numberOf-cons, numberOf-below}
 use Rattle.bits.proofs.Xor.{bitXor-bits}
 use Rattle.formats.specs.Polynomial.{sum}
-
-pub allBits-sum : (u v : List ℕ) → T (allBits (sum u v))
-unfolding sum
-allBits-sum [] v = allBits-nil
-allBits-sum (a ∷ u) [] = allBits-nil
-allBits-sum (a ∷ u) (b ∷ v) = allBits-cons ((a + b) % 2) (sum u v) (omega arith) (allBits-sum u v)
-
-pub length-sum : (u v : List ℕ) → length u ≡ length v → length (sum u v) ≡ length u
-unfolding sum
-length-sum [] v e = refl
-length-sum (a ∷ u) [] e = sym e
-length-sum (a ∷ u) (b ∷ v) e = ap suc (length-sum u v (suc-inj e))
+pub use Rattle.cyclic.proofs.Lists.{bits-sum as allBits-sum, length-sum}
 
 -- the number of a sum is the XOR of the two numbers
 pub value-sum : (u v : List ℕ) → T (allBits u) → T (allBits v) → length u ≡ length v → numberOf (sum u v) ≡ bitXor (numberOf u) (numberOf v)

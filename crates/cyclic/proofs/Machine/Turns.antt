@@ -21,7 +21,8 @@ use Rattle.cyclic.specs.Check.{turnRemainder, same, pickTurn, turnAmong,
 use Rattle.cyclic.specs.Machine.{stepV}
 use Rattle.cyclic.specs.Remainder.{remainder, remainderFrom, step}
 use Rattle.cyclic.proofs.Same.{same-equal, equal-same}
-use Rattle.cyclic.proofs.Machine.Bridge.{run-append, step-number}
+use Rattle.cyclic.proofs.Quotients.{from-append}
+use Rattle.cyclic.proofs.Machine.Bridge.{step-number}
 use Rattle.cyclic.proofs.Machine.Divisors.{f-monic, divisor-degree}
 use Rattle.cyclic.proofs.Machine.Lists.{allBits-zeros, allBits-remainder, length-remainder, remainder-list}
 
@@ -48,7 +49,7 @@ turn-next F s =
     let r : List ℕ = replicate (length (fOf F) - 1) 0 in
     ap (λ (z : List ℕ). remainderFrom t r (gOf F ++ z)) (sym (replicate-append-replicate s 1 0))
     ∙ ap (remainderFrom t r) (sym (append-assoc (gOf F) (replicate s 0) (0 ∷ [])))
-    ∙ run-append t r (gOf F ++ replicate s 0) (0 ∷ [])
+    ∙ from-append t r (gOf F ++ replicate s 0) (0 ∷ [])
 
 -- The remainder of turn s, as a list and as the number w.
 module _ (x : Format) (s : ℕ) {w : ℕ} (e : w ≡ numberOf (turnRemainder (numbersOf x) s)) where

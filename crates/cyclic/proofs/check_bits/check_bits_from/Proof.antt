@@ -11,7 +11,8 @@ use Rattle.bits.proofs.Numbers.{length-bitsOf}
 use Rattle.formats.specs.Numbers.{numbersOf, fgOf}
 use Rattle.formats.specs.Value.{valueOf}
 use Rattle.cyclic.specs.Remainder.{remainderFrom}
-use Rattle.cyclic.proofs.Machine.Bridge.{allBits-run, run-append}
+use Rattle.cyclic.proofs.Quotients.{from-append}
+use Rattle.cyclic.proofs.Remainders.{bits-from}
 use Rattle.cyclic.proofs.Machine.Divisors.{fg-monic}
 use Rattle.cyclic.proofs.Machine.Lists.{allBits-zeros, length-register, register-list, checked-number, checked-fits}
 use Rattle.cyclic.proofs.check_bits.check_bits_from.Statement.{statement}
@@ -48,9 +49,9 @@ returns c =
     let rest =
     c .before .before .remainder-from-fg2 .ensures .0
     ∙ ap (λ (r : List ℕ). numberOf (remainderFrom t r (replicate 85 0))) middle
-    ∙ ap numberOf (sym (run-append t start above (replicate 85 0)))
+    ∙ ap numberOf (sym (from-append t start above (replicate 85 0)))
     in
-    let hr = allBits-run t start after hs bits in
+    let hr = bits-from t start after hs bits in
     let long = length-register (fg-monic x) start after hs size bits in
     let e = c .plus .ensures ∙ checked-number x (remainderFrom t start after) hr long rest (c .before .g .ensures) in
     (e, checked-fits x (remainderFrom t start after) hr long e)
