@@ -1,0 +1,77 @@
+-- A test that holds of each of k numbers: of each by itself, and in a loop that tests one after the other. Assumes nothing.
+use mathlib.Core.Path.{_≡_, refl, sym, ap, _∙_, subst}
+use mathlib.Core.Bool.{Bool, true, false}
+use Prim.Native.Nat.{ℕ, zero, suc, _+_, _-_, _≤_, _<_}
+use native.Mathlib.Nat.{add-zero, le-of-suc-le-suc}
+use native.Mathlib.Numerals.{add-one}
+use native.Mathlib.Omega.{arith}
+use lib.Dec.{T}
+use Rattle.bits.specs.Bits.{both}
+use Rattle.bits.proofs.Both.{both-left, both-right, both-of}
+use Rattle.conditions.specs.Conditions.{each}
+
+-- where it holds of each it holds of the j-th
+pub each-at : (test : ℕ → Bool) (i k j : ℕ) → T (each test i k) → j < k → T (test (i + j))
+unfolding each
+each-at test i zero j t h = absurd (omega arith)
+each-at test i (suc k) zero t h =
+    subst (λ (x : ℕ). T (test x)) (sym (add-zero i)) (both-left (test i) (each test (suc i) k) t)
+each-at test i (suc k) (suc j) t h =
+    let place : suc i + j ≡ i + suc j = omega arith in
+    subst (λ (x : ℕ). T (test x)) place (each-at test (suc i) k j (both-right (test i) (each test (suc i) k) t) (le-of-suc-le-suc h))
+
+-- where it holds of the j-th for every j below k it holds of each
+pub each-of : (test : ℕ → Bool) (i k : ℕ) → ((j : ℕ) → j < k → T (test (i + j))) → T (each test i k)
+unfolding each
+each-of test i zero f = tt
+each-of test i (suc k) f =
+    both-of (test i) (each test (suc i) k)
+    (subst (λ (x : ℕ). T (test x)) (add-zero i) (f 0 (omega arith)))
+    (each-of test (suc i) k λ j h.
+    let place : i + suc j ≡ suc i + j = omega arith in
+    subst (λ (x : ℕ). T (test x)) place (f (suc j) (omega arith)))
+
+-- two tests that agree
+pub each-same : (s t : ℕ → Bool) (i k : ℕ) → ((j : ℕ) → s j ≡ t j) → each s i k ≡ each t i k
+unfolding each
+each-same s t i zero e = refl
+each-same s t i (suc k) e = rw (e i, each-same s t (suc i) k e)
+
+-- one number is next, and the rest after it
+pub each-more : (test : ℕ → Bool) (i e : ℕ) → i < e → each test i (e - i) ≡ both (test i) (each test (i + 1) (e - (i + 1)))
+unfolding each
+each-more test i e h =
+    let count : e - i ≡ suc (e - (i + 1)) = omega arith in
+    rw (count, add-one i)
+
+-- no number is left
+pub each-done : (test : ℕ → Bool) (i e : ℕ) → e ≤ i → each test i (e - i) ≡ true
+unfolding each
+each-done test i e h =
+    let none : e - i ≡ 0 = omega arith in
+    rw none
+
+-- a loop that tests numbers up to e: those before i have passed, so that the answer for the whole is the one for the rest
+pub record Passed (test : ℕ → Bool) (whole : Bool) (i e : ℕ) : Type 0 where
+  pub within : i ≤ e
+  pub rest : whole ≡ each test i (e - i)
+
+-- none is tested yet
+pub passed-none : (test : ℕ → Bool) (i k : ℕ) → Passed test (each test i k) i (i + k)
+passed-none test i k =
+    let count : i + k - i ≡ k = omega arith in
+    record { within = omega arith; rest = rw count }
+
+-- the next passes
+pub passed-more : {test : ℕ → Bool} {whole : Bool} {i e : ℕ} → Passed test whole i e → i < e → test i ≡ true → Passed test whole (i + 1) e
+passed-more {test} {i} {e} p h t =
+    record { within = omega arith; rest = p .rest ∙ each-more test i e h ∙ ap (λ (x : Bool). both x (each test (i + 1) (e - (i + 1)))) t }
+
+-- the next fails, and so does the whole
+pub passed-fails : {test : ℕ → Bool} {whole : Bool} {i e : ℕ} → Passed test whole i e → i < e → test i ≡ false → false ≡ whole
+passed-fails {test} {i} {e} p h t =
+    sym (p .rest ∙ each-more test i e h ∙ ap (λ (x : Bool). both x (each test (i + 1) (e - (i + 1)))) t)
+
+-- all have passed
+pub passed-done : {test : ℕ → Bool} {whole : Bool} {i e : ℕ} → Passed test whole i e → e ≤ i → true ≡ whole
+passed-done {test} {i} {e} p h = sym (p .rest ∙ each-done test i e h)

@@ -1,0 +1,7 @@
+pub mod Differences
+pub mod Each
+pub mod Round
+pub mod Runs
+pub mod Sizes
+pub mod Tests
+pub mod ThinnedRing

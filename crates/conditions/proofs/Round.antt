@@ -1,0 +1,99 @@
+-- Bits and words round a ring: places are counted modulo its length, a loop takes the next bit or word, and the words once round and
+-- then once more are twice the same. Assumes nothing.
+use mathlib.Core.Path.{_≡_, refl, sym, ap, ap₂, _∙_}
+use mathlib.Core.Bool.{Bool}
+use mathlib.Core.List.{List, [], _∷_, _++_}
+use Prim.Native.Nat.{ℕ, zero, suc, _+_, _-_, _*_, _%_, _≤_, _<_}
+use native.Mathlib.Nat.{mod-mod, mod-add-mod, mod-eq-of-lt}
+use native.Mathlib.Numerals.{add-one}
+use native.Mathlib.Omega.{arith}
+use lib.ListN.{length, getD}
+use Rattle.bits.specs.Bits.{around}
+use Rattle.bits.proofs.Ring.{around-period}
+use Rattle.telegrams.specs.Fields.{isWord}
+use Rattle.conditions.specs.Runs.{validWords}
+
+-- places count modulo the length
+pub around-mod : (k p : ℕ) (b : List ℕ) → around k (p % length b) b ≡ around k p b
+unfolding around
+around-mod zero p b = refl
+around-mod (suc k) p b =
+    let n = length b in
+    ap₂ (λ (x : ℕ) (l : List ℕ). getD b x 0 ∷ l) (mod-mod p n)
+    (sym (around-mod k (suc (p % n)) b)
+    ∙ ap (λ (x : ℕ). around k x b) (rw (← add-one (p % n), ← add-one p) (mod-add-mod p n 1))
+    ∙ around-mod k (suc p) b)
+
+-- of k bits from place p, after i of them: the next, and the rest after it
+pub around-more : (k i p : ℕ) (b : List ℕ) → i < k → p < length b
+    → around (k - i) p b ≡ getD b p 0 ∷ around (k - (i + 1)) ((p + 1) % length b) b
+unfolding around
+around-more k i p b h inside =
+    let count : k - i ≡ suc (k - (i + 1)) = omega arith in
+    ap (λ (x : ℕ). around x p b) count
+    ∙ ap₂ (λ (x : ℕ) (l : List ℕ). getD b x 0 ∷ l) (mod-eq-of-lt inside)
+    (ap (λ (x : ℕ). around (k - (i + 1)) x b) (sym (add-one p)) ∙ sym (around-mod (k - (i + 1)) (p + 1) b))
+
+pub around-done : (k i p : ℕ) (b : List ℕ) → k ≤ i → around (k - i) p b ≡ []
+unfolding around
+around-done k i p b h =
+    let none : k - i ≡ 0 = omega arith in
+    ap (λ (x : ℕ). around x p b) none
+
+pub length-validWords : (k p : ℕ) (b : List ℕ) → length (validWords k p b) ≡ k
+unfolding validWords
+length-validWords zero p b = refl
+length-validWords (suc k) p b = ap suc (length-validWords k (p + 11) b)
+
+pub validWords-mod : (k p : ℕ) (b : List ℕ) → validWords k (p % length b) b ≡ validWords k p b
+unfolding validWords
+validWords-mod zero p b = refl
+validWords-mod (suc k) p b =
+    let n = length b in
+    ap₂ (λ (x : List ℕ) (l : List Bool). isWord x ∷ l) (around-mod 11 p b)
+    (sym (validWords-mod k (p % n + 11) b) ∙ ap (λ (x : ℕ). validWords k x b) (mod-add-mod p n 11) ∙ validWords-mod k (p + 11) b)
+
+-- of k words from place p, after i of them: the next, and the rest after it
+pub validWords-more : (k i p : ℕ) (b : List ℕ) → i < k
+    → validWords (k - i) p b ≡ isWord (around 11 p b) ∷ validWords (k - (i + 1)) ((p + 11) % length b) b
+unfolding validWords
+validWords-more k i p b h =
+    let count : k - i ≡ suc (k - (i + 1)) = omega arith in
+    ap (λ (x : ℕ). validWords x p b) count
+    ∙ ap (λ (l : List Bool). isWord (around 11 p b) ∷ l) (sym (validWords-mod (k - (i + 1)) (p + 11) b))
+
+pub validWords-done : (k i p : ℕ) (b : List ℕ) → k ≤ i → validWords (k - i) p b ≡ []
+unfolding validWords
+validWords-done k i p b h =
+    let none : k - i ≡ 0 = omega arith in
+    ap (λ (x : ℕ). validWords x p b) none
+
+-- first j words, then the rest
+pub validWords-append : (j k p : ℕ) (b : List ℕ) → validWords (j + k) p b ≡ validWords j p b ++ validWords k (p + 11 * j) b
+unfolding validWords
+validWords-append zero k p b =
+    let count : zero + k ≡ k = omega arith in
+    let place : p + 11 * zero ≡ p = omega arith in
+    rw (count, place)
+validWords-append (suc j) k p b =
+    let count : suc j + k ≡ suc (j + k) = omega arith in
+    let place : p + 11 + 11 * j ≡ p + 11 * suc j = omega arith in
+    ap (λ (x : ℕ). validWords x p b) count
+    ∙ ap (λ (l : List Bool). isWord (around 11 p b) ∷ l)
+    (validWords-append j k (p + 11) b ∙ ap (λ (x : ℕ). validWords j (p + 11) b ++ validWords k x b) place)
+
+-- once round is the same place
+pub validWords-period : (k p : ℕ) (b : List ℕ) → validWords k (p + length b) b ≡ validWords k p b
+unfolding validWords
+validWords-period zero p b = refl
+validWords-period (suc k) p b =
+    let place : p + length b + 11 ≡ p + 11 + length b = omega arith in
+    ap₂ (λ (x : List ℕ) (l : List Bool). isWord x ∷ l) (around-period 11 p b)
+    (ap (λ (x : ℕ). validWords k x b) place ∙ validWords-period k (p + 11) b)
+
+-- where w words fill the ring, twice as many are those words twice
+pub validWords-twice : (w p : ℕ) (b : List ℕ) → 11 * w ≡ length b → validWords (2 * w) p b ≡ validWords w p b ++ validWords w p b
+validWords-twice w p b e =
+    let count : 2 * w ≡ w + w = omega arith in
+    ap (λ (x : ℕ). validWords x p b) count ∙ validWords-append w w p b
+    ∙ ap (λ (l : List Bool). validWords w p b ++ l) (ap (λ (x : ℕ). validWords w (p + x) b) e ∙ validWords-period w p b)

@@ -1,0 +1,29 @@
+// Conditions 2, 3 and 4 of a proper telegram (document 01, "Four conditions of a proper telegram").
+// A telegram is b(n-1) to b0, one bit to a byte: b(i) stands at place n-1-i of the slice.
+ghost use mathlib.Core.Path.{_≡_};
+ghost use lib.Dec.{T};
+ghost use lib.ListN.{length};
+ghost use Rattle.bits.specs.Bits.{both, allBits};
+ghost use Rattle.formats.specs.Numbers.{numbersOf};
+ghost use Rattle.conditions.specs.Conditions.{offStep, notRepeating, thinnedOut};
+use formats::format::Format;
+
+pub mod off_step;
+pub mod repeating;
+pub mod ring;
+pub mod run;
+pub mod thinned;
+
+// Whether conditions 2, 3 and 4 hold.
+pub fn conditions(format: Format, b: &[u8]) -> bool
+    requires { ⌜ T (allBits (now b)) × (length (now b) ≡ numbersOf format .n) ⌝ }
+    ensures { λ r. ⌜ r ≡ both (offStep format (now (b .entry))) (both (notRepeating format (now (b .entry))) (thinnedOut format (now (b .entry)))) ⌝ }
+{
+    if !off_step::off_step(format, b) {
+        return false;
+    }
+    if !repeating::not_repeating(format, b) {
+        return false;
+    }
+    thinned::thinned_out(format, b)
+}

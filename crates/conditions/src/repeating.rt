@@ -1,0 +1,83 @@
+// Condition 3, of the long format only (document 01, "Four conditions of a proper telegram").
+ghost use mathlib.Core.Path.{_≡_};
+ghost use Prim.Native.Nat.{ℕ, _+_, _≤_, _<_};
+ghost use lib.Dec.{T};
+ghost use lib.ListN.{length};
+ghost use Rattle.bits.specs.Bits.{allBits, around};
+ghost use Rattle.formats.specs.Numbers.{numbersOf};
+ghost use Rattle.conditions.specs.Conditions.{each, differences, apart, shiftedApart, notRepeating};
+use crate::ring;
+use formats::format::Format;
+use formats::format::Long;
+
+// In how many places the 22 bits from place p differ from the 22 that stand k places on.
+fn differing(b: &[u8], p: usize, k: usize) -> usize
+    requires { ⌜ (p < length (now b)) × (k ≤ length (now b)) ⌝ }
+    ensures { λ r. ⌜ r ≡ differences (around 22 p (now (b .entry))) (around 22 (p + k) (now (b .entry))) ⌝ }
+{
+    let mut count: usize = 0;
+    let mut at = p;
+    let mut other = ring::place_after(p, k, b.len());
+    let mut i: usize = 0;
+    while i < 22 {
+        if b[at] != b[other] {
+            count += 1;
+        }
+        at = ring::place_after(at, 1, b.len());
+        other = ring::place_after(other, 1, b.len());
+        i += 1;
+    }
+    count
+}
+
+// Whether the 22 bits from place p differ in at least 2 places from those that stand k places on, for three k from first on.
+fn three_apart(b: &[u8], p: usize, first: usize) -> bool
+    requires { ⌜ (p < length (now b)) × (first + 3 ≤ length (now b)) ⌝ }
+    ensures { λ r. ⌜ r ≡ each (λ (k : ℕ). apart 2 (now (b .entry)) p (p + k)) first 3 ⌝ }
+{
+    for k in first..first + 3 {
+        if differing(b, p, k) < 2 {
+            return false;
+        }
+    }
+    true
+}
+
+// Whether condition 3 holds at word j.
+fn shifted_apart(b: &[u8], j: usize) -> bool
+    requires { ⌜ (length (now b) ≡ 1023) × (j < 93) ⌝ }
+    ensures { λ r. ⌜ r ≡ shiftedApart (now (b .entry)) j ⌝ }
+{
+    let p = 11 * j;
+    if differing(b, p, 341) < 3 {
+        return false;
+    }
+    if !three_apart(b, p, 338) {
+        return false;
+    }
+    three_apart(b, p, 342)
+}
+
+// Whether condition 3 holds at each word of a long telegram.
+fn each_shifted_apart(b: &[u8]) -> bool
+    requires { ⌜ length (now b) ≡ 1023 ⌝ }
+    ensures { λ r. ⌜ r ≡ each (shiftedApart (now (b .entry))) 0 93 ⌝ }
+{
+    for j in 0..Long::WORDS {
+        if !shifted_apart(b, j) {
+            return false;
+        }
+    }
+    true
+}
+
+// Whether condition 3 holds.
+pub fn not_repeating(format: Format, b: &[u8]) -> bool
+    requires { ⌜ T (allBits (now b)) × (length (now b) ≡ numbersOf format .n) ⌝ }
+    ensures { λ r. ⌜ r ≡ notRepeating format (now (b .entry)) ⌝ }
+{
+    match format {
+        Format::Long => each_shifted_apart(b),
+        Format::Short => true,
+    }
+}

@@ -1,0 +1,63 @@
+// Condition 4, thinned (document 01, "Four conditions of a proper telegram").
+ghost use mathlib.Core.Path.{_≡_};
+ghost use mathlib.Core.List.{_++_};
+ghost use Prim.Native.Nat.{_≤_, _<_};
+ghost use lib.Dec.{T};
+ghost use lib.ListN.{length, drop};
+ghost use Rattle.bits.specs.Bits.{allBits};
+ghost use Rattle.formats.specs.Numbers.{numbersOf};
+ghost use Rattle.conditions.specs.Conditions.{each, thinnedBelow, thinnedAt, thinnedBy, thinnedOut};
+use crate::run;
+use formats::format;
+use formats::format::Format;
+
+// Writes v(n-1) to v0, v(j) = b(j*step), over the front of out.
+fn thin(b: &[u8], step: usize, out: &mut [u8])
+    requires { ⌜ (length (now b) ≤ length (now out)) × ((length (now b) ≤ 1023) × (step ≤ 16)) ⌝ }
+    ensures { λ _. ⌜ now (out .exit) ≡ thinnedBelow (length (now (b .entry))) step (now (b .entry)) ++ drop (length (now (b .entry))) (now (out .entry)) ⌝ }
+{
+    let n = b.len();
+    let mut j = n;
+    while 0 < j {
+        j -= 1;
+        out[n - 1 - j] = b[n - 1 - j * step % n];
+    }
+}
+
+// Whether at each of the 11 alignments no run round the ring of v exceeds 30: twice round holds every run.
+fn within_round(format: Format, v: &[u8]) -> bool
+    requires { ⌜ T (allBits (now v)) × (length (now v) ≡ numbersOf format .n) ⌝ }
+    ensures { λ r. ⌜ r ≡ each (thinnedAt format (now (v .entry))) 0 11 ⌝ }
+{
+    let count = 2 * format::words(format);
+    for a in 0..11 {
+        if 30 < run::longest_run(v, a, count) {
+            return false;
+        }
+    }
+    true
+}
+
+// Whether condition 4 holds at k.
+fn thinned_by(format: Format, b: &[u8], k: usize) -> bool
+    requires { ⌜ T (allBits (now b)) × ((length (now b) ≡ numbersOf format .n) × (k ≤ 4)) ⌝ }
+    ensures { λ r. ⌜ r ≡ thinnedBy format (now (b .entry)) k ⌝ }
+{
+    let mut v = [0u8; 1023];
+    thin(b, 1 << k, &mut v);
+    let n = b.len();
+    within_round(format, &v[..n])
+}
+
+// Whether condition 4 holds.
+pub fn thinned_out(format: Format, b: &[u8]) -> bool
+    requires { ⌜ T (allBits (now b)) × (length (now b) ≡ numbersOf format .n) ⌝ }
+    ensures { λ r. ⌜ r ≡ thinnedOut format (now (b .entry)) ⌝ }
+{
+    for k in 1..5 {
+        if !thinned_by(format, b, k) {
+            return false;
+        }
+    }
+    true
+}
