@@ -1,1 +1,5 @@
-// Telegrams.
+// Telegrams (document 01, "The telegram, left to right"): one made from a block, the scrambling bits and the extra shaping
+// bits, and the fields of one.
+pub mod checking;
+pub mod fields;
+pub mod making;

@@ -1,0 +1,129 @@
+-- The buffer while a telegram is made: the shaped data stands in front, then the settings come after it, then the check bits, and that is the
+-- telegram. Assumes nothing.
+use mathlib.Core.Path.{_≡_, sym, ap, ap₂, subst⁻¹, _∙_}
+use mathlib.Core.List.{List, _++_, append-assoc}
+use Prim.Native.Nat.{ℕ, _+_, _-_, _*_, _≤_}
+use native.Mathlib.Omega.{arith}
+use lib.Dec.{T, lit≤}
+use lib.ListN.{length, take, drop, length-append, take-append-drop}
+use lib.Seq.{take-at, drop-at, drop-drop, take-append-le, length-take-le}
+use Rattle.bits.specs.Bits.{allBits, numberOf, bitsOf}
+use Rattle.bits.proofs.AllBits.{allBits-append}
+use Rattle.formats.specs.declared.format.Format.{Format}
+use Rattle.formats.specs.declared.format.Format.the-variants.{Long, Short}
+use Rattle.formats.specs.Numbers.{Numbers, numbersOf, blocks}
+use Rattle.formats.proofs.Sizes.{Sizes, sizesOf}
+use Rattle.scrambling.specs.Scrambling.{scrambled}
+use Rattle.scrambling.specs.Sum.{withSum}
+use Rattle.cyclic.specs.Check.{checkBits}
+use Rattle.cyclic.proofs.Laws.{Facts}
+use Rattle.cyclic.proofs.Machine.Lists.{check-list}
+use Rattle.telegrams.specs.Telegram.{shaped, shapedData, settings, unchecked, telegramOf}
+use Rattle.telegrams.proofs.Made.{length-settings, bits-settings, length-shapedData, length-made, made-data}
+use Rattle.telegrams.proofs.Buffers.Fronts.{lent, back, front-more}
+
+-- a block of either format fits the longer
+pub block-fits : (format : Format) → numbersOf format .m ≤ 830
+block-fits Long = lit≤ tt
+block-fits Short = lit≤ tt
+
+-- ---- the buffer t that has the shaped data over the front of old
+
+module _ (F : Numbers) (S : Sizes F) (u : List ℕ) (B : ℕ) (old t : List ℕ)
+    (e : t ≡ shaped (blocks F) (scrambled B (withSum (blocks F) u)) ++ drop (11 * blocks F) old) where
+  place : 11 * blocks F ≡ F .n - 110
+  place = omega (arith, S .n-is)
+
+  size : length (shaped (blocks F) (scrambled B (withSum (blocks F) u))) ≡ 11 * blocks F
+  unfolding shapedData
+  size = length-shapedData F S u B ∙ sym place
+
+  pub data-front : take (F .n - 110) t ≡ shapedData F u B
+  unfolding shapedData
+  data-front =
+      ap₂ take (sym place) e
+      ∙ take-at (shaped (blocks F) (scrambled B (withSum (blocks F) u))) (drop (11 * blocks F) old) (11 * blocks F) size
+
+  -- what stands after the telegram is as it was
+  pub data-back : drop (F .n) t ≡ drop (F .n) old
+  data-back =
+      let after : 11 * blocks F + 110 ≡ F .n = omega (arith, S .n-is) in
+      ap (λ (i : ℕ). drop i t) (sym after) ∙ sym (drop-drop 110 (11 * blocks F) t)
+      ∙ ap (drop 110) (ap (drop (11 * blocks F)) e
+      ∙ drop-at (shaped (blocks F) (scrambled B (withSum (blocks F) u))) (drop (11 * blocks F) old) (11 * blocks F) size)
+      ∙ drop-drop 110 (11 * blocks F) old ∙ ap (λ (i : ℕ). drop i old) after
+
+-- ---- the settings after the first n - 110 bits of t, and the check bits after them
+
+module _ (format : Format) (n : ℕ) (n-is : n ≡ numbersOf format .n) (t : List ℕ) (B esb : ℕ) (fits : numbersOf format .n ≤ length t) where
+  data-size : length (take (n - 110) t) ≡ n - 110
+  data-size = length-take-le (n - 110) t (omega arith)
+
+  settled-size : length (take (n - 110) t ++ settings B esb) ≡ n - 85
+  settled-size =
+      length-append (take (n - 110) t) (settings B esb) ∙ omega (arith, data-size, length-settings B esb, sizesOf format .n-is)
+
+  settled-bits : T (allBits (take (numbersOf format .n - 110) t)) → T (allBits (take (n - 110) t ++ settings B esb))
+  settled-bits h =
+      allBits-append (take (n - 110) t) (settings B esb) (subst⁻¹ (λ (m : ℕ). T (allBits (take (m - 110) t))) n-is h) (bits-settings B esb)
+
+  -- left is what the callee that writes the settings leaves
+  module _ (left : List ℕ) (written : left ≡ settings B esb ++ drop 25 (lent (n - 110) t)) where
+    settled : back (n - 110) t left ≡ (take (n - 110) t ++ settings B esb) ++ drop (n - 85) t
+    settled =
+        let place : n - 110 + 25 ≡ n - 85 = omega (arith, sizesOf format .n-is) in
+        front-more (take (n - 110) t) (settings B esb) t t left (n - 110) 25 data-size (sym (take-append-drop (n - 110) t)) written
+        ∙ ap (λ (i : ℕ). (take (n - 110) t ++ settings B esb) ++ drop i t) place
+
+    settled-front : take (n - 85) (back (n - 110) t left) ≡ take (n - 110) t ++ settings B esb
+    settled-front = ap (take (n - 85)) settled ∙ take-at (take (n - 110) t ++ settings B esb) (drop (n - 85) t) (n - 85) settled-size
+
+    module _ (h : T (allBits (take (numbersOf format .n - 110) t))) where
+      pub bits-before : T (allBits (take (n - 85) (back (n - 110) t left)))
+      bits-before = rw settled-front (settled-bits h)
+
+      -- y is the number of the check bits, and last what the callee that writes them leaves
+      pub completed : (y : ℕ) (last : List ℕ) → y ≡ numberOf (checkBits (numbersOf format) (take (n - 85) (back (n - 110) t left)))
+          → last ≡ bitsOf 85 y ++ drop 85 (lent (n - 85) (back (n - 110) t left))
+          → back (n - 85) (back (n - 110) t left) last
+          ≡ (take (numbersOf format .n - 110) t ++ settings B esb)
+          ++ (checkBits (numbersOf format) (take (numbersOf format .n - 110) t ++ settings B esb) ++ drop (numbersOf format .n) t)
+      completed y last number checked =
+          let F = numbersOf format in
+          let d = take (n - 110) t ++ settings B esb in
+          let end : n - 85 + 85 ≡ n = omega (arith, sizesOf format .n-is) in
+          let check : bitsOf 85 y ≡ checkBits F d =
+          check-list format d (settled-bits h) (number ∙ ap (λ (l : List ℕ). numberOf (checkBits F l)) settled-front) in
+          front-more d (bitsOf 85 y) t (back (n - 110) t left) last (n - 85) 85 settled-size settled checked
+          ∙ append-assoc d (bitsOf 85 y) (drop (n - 85 + 85) t)
+          ∙ ap₂ (λ (c : List ℕ) (i : ℕ). d ++ (c ++ drop i t)) check end
+          ∙ ap (λ (m : ℕ). (take (m - 110) t ++ settings B esb) ++ (checkBits F (take (m - 110) t ++ settings B esb) ++ drop m t)) n-is
+
+-- ---- the telegram
+
+-- what `complete` leaves where the shaped data of u and B stood in front of t
+pub made-telegram : (F : Numbers) (u : List ℕ) (B esb : ℕ) (t rest : List ℕ) → take (F .n - 110) t ≡ shapedData F u B
+    → (take (F .n - 110) t ++ settings B esb) ++ (checkBits F (take (F .n - 110) t ++ settings B esb) ++ rest) ≡ telegramOf F u B esb ++ rest
+unfolding telegramOf unchecked
+made-telegram F u B esb t rest e =
+    let d = shapedData F u B ++ settings B esb in
+    ap (λ (front : List ℕ). (front ++ settings B esb) ++ (checkBits F (front ++ settings B esb) ++ rest)) e
+    ∙ sym (append-assoc d (checkBits F d) rest)
+
+-- and where `write_shaped_data` had put it there, over the front of old
+pub made-over : (F : Numbers) → Sizes F → (u : List ℕ) (B esb : ℕ) (old t made : List ℕ)
+    → t ≡ shaped (blocks F) (scrambled B (withSum (blocks F) u)) ++ drop (11 * blocks F) old
+    → made ≡ (take (F .n - 110) t ++ settings B esb) ++ (checkBits F (take (F .n - 110) t ++ settings B esb) ++ drop (F .n) t)
+    → made ≡ telegramOf F u B esb ++ drop (F .n) old
+made-over F S u B esb old t made e completed =
+    completed ∙ made-telegram F u B esb t (drop (F .n) t) (data-front F S u B old t e)
+    ∙ ap (λ (l : List ℕ). telegramOf F u B esb ++ l) (data-back F S u B old t e)
+
+-- in a buffer that a telegram stands in front of: its shaped data, with which another can be completed, and what stands after it
+module _ (F : Numbers) (A : Facts F) (S : Sizes F) (u : List ℕ) (B esb : ℕ) (rest : List ℕ) where
+  pub telegram-data : take (F .n - 110) (telegramOf F u B esb ++ rest) ≡ shapedData F u B
+  telegram-data =
+      take-append-le (F .n - 110) (telegramOf F u B esb) rest (omega (arith, length-made F A S u B esb)) ∙ made-data F A S u B esb
+
+  pub telegram-rest : drop (F .n) (telegramOf F u B esb ++ rest) ≡ rest
+  telegram-rest = drop-at (telegramOf F u B esb) rest (F .n) (length-made F A S u B esb)

@@ -1,0 +1,15 @@
+-- `telegrams::fields::scrambling_bits` meets its contract. Assumes nothing.
+use borrow.Author.Needs.{needs}
+use Rattle.telegrams.specs.Fields.{scramblingOf}
+use Rattle.telegrams.proofs.fields.scrambling_bits.Statement.{statement}
+use Rattle.telegrams.proofs.fields.scrambling_bits.Tie as tie
+
+field-requires : tie.Need-field-requires
+field-requires c κs = search needs
+
+returns : tie.Need-returns
+unfolding scramblingOf
+returns c = c .field .ensures
+
+pub scrambling-bits-spec : {M : Type 1} → statement M
+scrambling-bits-spec = tie.close (tie.spec field-requires returns)

@@ -1,0 +1,74 @@
+// The fields of a telegram (document 01, "The telegram, left to right").
+ghost use mathlib.Core.Path.{_≡_};
+ghost use Prim.Native.Nat.{_*_, _-_, _≤_};
+ghost use lib.Dec.{T};
+ghost use lib.ListN.{length, take, drop};
+ghost use Rattle.bits.specs.Bits.{allBits, numberOf};
+ghost use Rattle.formats.specs.Numbers.{numbersOf};
+ghost use Rattle.cyclic.specs.Check.{same};
+ghost use Rattle.telegrams.specs.Telegram.{control};
+ghost use Rattle.telegrams.specs.Fields.{controlOf, scramblingOf, shapingOf, allWords};
+use crate::checking;
+use formats::format;
+use formats::format::Format;
+use words::Lookup;
+
+// b109 to b107.
+const CONTROL: [u8; 3] = [0, 0, 1];
+
+// Whether the first k words of s are all in the table.
+pub fn all_words(s: &[u8], k: usize) -> bool
+    requires { ⌜ T (allBits (now s)) ⌝ }
+    requires { ⌜ 11 * k ≤ length (now s) ⌝ }
+    ensures { λ r. ⌜ r ≡ allWords k (now (s .entry)) ⌝ }
+{
+    let mut j = 0;
+    while j < k {
+        let word = bits::number(s, 11 * j, 11);
+        let Lookup::Number(_) = words::look_up(word as u16) else {
+            return false;
+        };
+        j += 1;
+    }
+    true
+}
+
+// Whether the control bits are 0, 0, 1.
+pub fn has_control(format: Format, telegram: &[u8]) -> bool
+    requires { ⌜ numbersOf format .n ≤ length (now telegram) ⌝ }
+    ensures { λ r. ⌜ r ≡ same (controlOf (numbersOf format) (now (telegram .entry))) control ⌝ }
+{
+    let n = format::telegram_bits(format);
+    let at = n - 110;
+    let control = CONTROL;
+    checking::same(&telegram[at..at + 3], &control)
+}
+
+// The number of the k bits from b(p-1) on.
+fn field(format: Format, telegram: &[u8], p: usize, k: usize) -> u16
+    requires { ⌜ T (allBits (now telegram)) ⌝ }
+    requires { ⌜ numbersOf format .n ≤ length (now telegram) ⌝ }
+    requires { ⌜ (p ≤ 110) × ((k ≤ p) × (k ≤ 16)) ⌝ }
+    ensures { λ r. ⌜ r ≡ numberOf (take k (drop (numbersOf format .n - p) (now (telegram .entry)))) ⌝ }
+{
+    let n = format::telegram_bits(format);
+    bits::number(telegram, n - p, k) as u16
+}
+
+// The scrambling bits, b106 to b95, as a number.
+pub fn scrambling_bits(format: Format, telegram: &[u8]) -> u16
+    requires { ⌜ T (allBits (now telegram)) ⌝ }
+    requires { ⌜ numbersOf format .n ≤ length (now telegram) ⌝ }
+    ensures { λ r. ⌜ r ≡ scramblingOf (numbersOf format) (now (telegram .entry)) ⌝ }
+{
+    field(format, telegram, 107, 12)
+}
+
+// The extra shaping bits, b94 to b85, as a number.
+pub fn shaping_bits(format: Format, telegram: &[u8]) -> u16
+    requires { ⌜ T (allBits (now telegram)) ⌝ }
+    requires { ⌜ numbersOf format .n ≤ length (now telegram) ⌝ }
+    ensures { λ r. ⌜ r ≡ shapingOf (numbersOf format) (now (telegram .entry)) ⌝ }
+{
+    field(format, telegram, 95, 10)
+}
