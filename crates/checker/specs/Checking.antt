@@ -1,0 +1,38 @@
+-- What checking a telegram answers (document 01, "When the bench says no": refusals 1, 2 and 6 to 12, the lowest that applies).
+-- Assumes nothing.
+use Prim.Native.Nat.{ℕ}
+use mathlib.Core.List.{List}
+use lib.ListN.{length}
+use Rattle.bits.specs.Bits.{allBits}
+use Rattle.formats.specs.declared.format.Format.{Format}
+use Rattle.formats.specs.declared.format.Fit.{Fit}
+use Rattle.formats.specs.declared.format.Fit.the-variants.{As, Nothing}
+use Rattle.formats.specs.declared.refusal.Refusal.{Refusal}
+use Rattle.formats.specs.declared.refusal.Refusal.the-variants.{Length, NotBit, NotDivisible, NoTurn, Control, NotWord, OffStep, Repeating, Thinned}
+use Rattle.formats.specs.Numbers.{long, short, numbersOf, fitOf}
+use Rattle.formats.specs.Outcome.{orRefuse}
+use Rattle.cyclic.specs.Check.{same, divisible, unturned}
+use Rattle.telegrams.specs.Telegram.{control}
+use Rattle.telegrams.specs.Fields.{controlOf, allWords}
+use Rattle.conditions.specs.Conditions.{offStep, notRepeating, thinnedOut}
+use Rattle.checker.specs.declared.Checked.{Checked}
+use Rattle.checker.specs.declared.Checked.the-variants.{Proper, Refused}
+
+unfoldable pub checkAs : Format → List ℕ → Checked
+checkAs format b =
+    orRefuse (allBits b) (Refused NotBit)
+    (orRefuse (divisible (numbersOf format) b) (Refused NotDivisible)
+    (orRefuse (unturned (numbersOf format) b) (Refused NoTurn)
+    (orRefuse (same (controlOf (numbersOf format) b) control) (Refused Control)
+    (orRefuse (allWords (numbersOf format .words) b) (Refused NotWord)
+    (orRefuse (offStep format b) (Refused OffStep)
+    (orRefuse (notRepeating format b) (Refused Repeating)
+    (orRefuse (thinnedOut format b) (Refused Thinned)
+    (Proper format))))))))
+
+abbrev pub checkFit : Fit → List ℕ → Checked
+checkFit (As format) b = checkAs format b
+checkFit Nothing b = Refused Length
+
+unfoldable pub checkOf : List ℕ → Checked
+checkOf b = checkFit (fitOf (long .n) (short .n) (length b)) b

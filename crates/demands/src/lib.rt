@@ -1,0 +1,1 @@
+// The demands, as theorems about the definitions that the contracts of the calls cite.

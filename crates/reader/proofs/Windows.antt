@@ -1,0 +1,75 @@
+-- Windows: the bits of one, its front and its seam, and that what repeats at the seam is a window. Assumes nothing.
+use mathlib.Core.Path.{_≡_, refl, sym, ap, ap₂, _∙_}
+use mathlib.Core.Bool.{Bool, true, false}
+use mathlib.Core.List.{List, _++_}
+use Prim.Native.Nat.{ℕ, _+_, _-_, _≤_, _<_}
+use native.Mathlib.Nat.{add-comm}
+use native.Mathlib.Omega.{arith}
+use lib.Dec.{T}
+use lib.ListN.{length, take, drop, take-append-drop}
+use lib.Seq.{take-take, length-take-le}
+use Rattle.bits.specs.Bits.{allBits, around}
+use Rattle.bits.proofs.Flipped.{length-flip, allBits-flip, flip-flip}
+use Rattle.bits.proofs.Ring.{length-around, allBits-around, take-around, drop-around, around-period, around-turned, flip-around}
+use Rattle.cyclic.specs.Check.{turned}
+use Rattle.cyclic.proofs.Laws.{length-turned, turned-back}
+use Rattle.reader.specs.Windows.{oriented, cut}
+
+-- ---- upright or flipped
+
+pub length-oriented : (flipped : Bool) (b : List ℕ) → length (oriented flipped b) ≡ length b
+length-oriented true b = length-flip b
+length-oriented false b = refl
+
+pub bits-oriented : (flipped : Bool) (b : List ℕ) → T (allBits b) → T (allBits (oriented flipped b))
+bits-oriented true b h = allBits-flip b
+bits-oriented false b h = h
+
+pub oriented-twice : (flipped : Bool) (b : List ℕ) → T (allBits b) → oriented flipped (oriented flipped b) ≡ b
+oriented-twice true b h = flip-flip b h
+oriented-twice false b h = refl
+
+-- ---- the window of k bits
+
+pub length-cut : (k t : ℕ) (flipped : Bool) (b : List ℕ) → length (cut k t flipped b) ≡ k
+unfolding cut
+length-cut k t flipped b = length-oriented flipped (around k t b) ∙ length-around k t b
+
+pub bits-cut : (k t : ℕ) (flipped : Bool) (b : List ℕ) → T (allBits b) → T (allBits (cut k t flipped b))
+unfolding cut
+bits-cut k t flipped b h = bits-oriented flipped (around k t b) (allBits-around k t b h)
+
+-- a window cut flipped is cut from the telegram flipped
+pub cut-oriented : (k t : ℕ) (flipped : Bool) (b : List ℕ) → 0 < length b → cut k t flipped b ≡ around k t (oriented flipped b)
+unfolding cut
+cut-oriented k t true b h = flip-around k t b h
+cut-oriented k t false b h = refl
+
+-- ---- the window of n + r bits, from a ring b of n bits
+
+module _ (n r t : ℕ) (b : List ℕ) (size : length b ≡ n) where
+  -- its first n bits are b turned
+  pub ring-front : t ≤ n → take n (around (n + r) t b) ≡ turned t b
+  unfolding turned
+  ring-front h = take-around n r t b ∙ ap (λ (x : ℕ). around x t b) (sym size) ∙ around-turned t b (omega arith)
+
+  -- its last r bits repeat the first r
+  pub ring-seam : drop n (around (n + r) t b) ≡ take r (around (n + r) t b)
+  ring-seam =
+      drop-around n r t b ∙ ap (λ (x : ℕ). around r (t + x) b) (sym size) ∙ around-period r t b
+      ∙ sym (ap (λ (x : ℕ). take r (around x t b)) (add-comm n r) ∙ take-around r n t b)
+
+-- bits whose last r repeat the first r are the window of the first n, turned back, cut at the turn
+pub window-of : (n r t : ℕ) (w : List ℕ) → r ≤ n → t ≤ n → length w ≡ n + r → drop n w ≡ take r w
+    → around (n + r) t (turned (n - t) (take n w)) ≡ w
+unfolding turned
+window-of n r t w within below size seam =
+    let v = take n w in
+    let b = turned (n - t) v in
+    let all : length v ≡ n = length-take-le n w (omega arith) in
+    let ring : length b ≡ n = length-turned (n - t) v ∙ all in
+    let round : t + (n - t) ≡ length v = omega arith in
+    let front : take n (around (n + r) t b) ≡ v = ring-front n r t b ring below ∙ turned-back t (n - t) v round in
+    let back : drop n (around (n + r) t b) ≡ drop n w =
+    ring-seam n r t b ring ∙ sym (take-take r n (around (n + r) t b) within) ∙ ap (take r) front ∙ take-take r n w within ∙ sym seam in
+    sym (take-append-drop n (around (n + r) t b)) ∙ ap₂ _++_ front back ∙ take-append-drop n w
