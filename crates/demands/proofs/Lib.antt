@@ -8,3 +8,4 @@ pub mod Wrote
 pub mod Fifteen
 pub mod ThreeRounds
 pub mod Demand3
+pub mod Sheet

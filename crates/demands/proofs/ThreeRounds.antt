@@ -9,21 +9,21 @@ use lib.Dec.{T}
 use lib.ListN.{length, take, drop}
 use Rattle.bits.specs.Bits.{allBits, around}
 use Rattle.bits.proofs.Ring.{length-around, allBits-around, around-append, take-around, drop-around, around-period, around-rounds, around-turned}
-use Rattle.formats.specs.Numbers.{long, short, fOf, gOf, fgOf}
+use Rattle.formats.specs.Numbers.{Numbers, long, short, fOf, gOf, fgOf}
 use Rattle.cyclic.specs.declared.Turn.{Turn}
 use Rattle.cyclic.specs.declared.Turn.the-variants.{At, Nothing}
 use Rattle.cyclic.specs.Remainder.{remainder}
 use Rattle.cyclic.specs.Check.{gPadded, turned, turnOf, divisible}
-use Rattle.cyclic.proofs.Laws.{longFacts, shortFacts, zeros, turned-reads, turn-never, turnOf-at, thrice}
+use Rattle.cyclic.proofs.Laws.{Facts, longFacts, shortFacts, zeros, turned-reads, turn-never, turnOf-at, thrice}
 use Rattle.cyclic.proofs.Same.{equal-same}
 use Rattle.reader.specs.Reads.{seamAgrees}
 
 -- the remainder 0 is that of no turn
-pub zero-no-turn : turnOf long (zeros 10) ≡ Nothing
-zero-no-turn = go (turnOf long (zeros 10)) refl
+pub zero-no-turn : (F : Numbers) → Facts F → turnOf F (zeros 10) ≡ Nothing
+zero-no-turn F A = go (turnOf F (zeros 10)) refl
   where
-    go : (a : Turn) → turnOf long (zeros 10) ≡ a → turnOf long (zeros 10) ≡ Nothing
-    go (At t) e = let r = turnOf-at long t (zeros 10) e in absurd (turn-never long longFacts t (r .0) (r .1))
+    go : (a : Turn) → turnOf F (zeros 10) ≡ a → turnOf F (zeros 10) ≡ Nothing
+    go (At t) e = let r = turnOf-at F t (zeros 10) e in absurd (turn-never F A t (r .0) (r .1))
     go Nothing e = e
 
 -- a ring x of 341 bits with the remainder g by the short f*g, from the turn t on
@@ -65,4 +65,4 @@ module _ (x : List ℕ) (t : ℕ) (bits : T (allBits x)) (size : length x ≡ 34
   rounds-no-turn =
       let v = around 341 t x in
       ap (λ (l : List ℕ). turnOf long (remainder (fOf long) l)) three-rounds
-      ∙ ap (turnOf long) (thrice v (allBits-around 341 t x bits) (length-around 341 t x) one-round .1) ∙ zero-no-turn
+      ∙ ap (turnOf long) (thrice v (allBits-around 341 t x bits) (length-around 341 t x) one-round .1) ∙ zero-no-turn long longFacts

@@ -3,3 +3,4 @@ pub mod FirstPair
 pub mod CutFrom
 pub mod Answers
 pub mod Demand3
+pub mod BenchSheet

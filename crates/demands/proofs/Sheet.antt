@@ -1,0 +1,77 @@
+-- W1 to W12 of the bench sheet, as one list. All but the turn of W10 is computed. Assumes nothing.
+use mathlib.Core.Path.{_≡_, refl, ap, _∙_}
+use mathlib.Core.Bool.{true}
+use mathlib.Core.List.{List, [], _∷_, _++_}
+use Prim.Native.Nat.{ℕ}
+use lib.Dec.{lit≤}
+use lib.ListN.{length, take, replicate}
+use Rattle.bits.specs.Bits.{allBits, numberFrom, bitsOf}
+use Rattle.formats.specs.declared.format.Format.the-variants.{Long, Short}
+use Rattle.formats.specs.declared.refusal.Refusal.the-variants.{NoTurn}
+use Rattle.formats.specs.Outcome.{Outcome, outcome}
+use Rattle.formats.specs.Polynomial.{polynomial, coefficientsBelow, coefficientOf, sum}
+use Rattle.formats.specs.Numbers.{short, fitOf, fOf, gOf}
+use Rattle.words.specs.Table.{table}
+use Rattle.words.specs.Words.{wordOf}
+use Rattle.scrambling.specs.Scrambling.{nextState, scrambledFrom, scrambled}
+use Rattle.scrambling.specs.Sum.{sumOfBlocks, withSum, withoutSum}
+use Rattle.cyclic.specs.Remainder.{step, remainderFrom, remainder}
+use Rattle.cyclic.specs.Check.{same, divisible, turnOf}
+use Rattle.cyclic.proofs.Laws.{shortFacts, zeros}
+use Rattle.reader.specs.declared.ReadAnswer.{ReadAnswer}
+use Rattle.reader.specs.declared.ReadAnswer.the-variants.{Refused}
+use Rattle.reader.specs.Reads.{seamAgrees, readAs, readOf}
+use Rattle.reader.proofs.Steps.{length-fits, turn-refused}
+use Rattle.demands.specs.BenchSheet.{answerNumber, refusedRead, answers, sheet}
+use Rattle.demands.proofs.ThreeRounds.{zero-no-turn}
+
+-- W10: 462 zeros pass the tests before the turn, and leave the remainder 0 by f
+zeros-bits : allBits (replicate 462 0) ≡ true
+unfolding allBits
+zeros-bits = refl
+
+zeros-seam : seamAgrees short (replicate 462 0) ≡ true
+unfolding seamAgrees same
+zeros-seam = refl
+
+zeros-divisible : divisible short (replicate 341 0) ≡ true
+unfolding divisible same remainder remainderFrom step sum gOf polynomial coefficientsBelow coefficientOf
+zeros-divisible = refl
+
+zeros-rest : remainder (fOf short) (replicate 341 0) ≡ zeros 10
+unfolding remainder remainderFrom step sum fOf polynomial coefficientsBelow coefficientOf
+zeros-rest = refl
+
+zeros-read : readOf (replicate 462 0) (replicate 210 0) ≡ outcome (Refused NoTurn) (replicate 210 0)
+unfolding fitOf
+zeros-read =
+    length-fits Short (replicate 462 0) (replicate 210 0) refl
+    ∙ turn-refused Short (replicate 462 0) (replicate 210 0) zeros-bits (lit≤ tt) zeros-seam zeros-divisible
+    (ap (turnOf short) zeros-rest ∙ zero-no-turn short shortFacts)
+
+no-turn : refusedRead (replicate 462 0) ≡ 7
+unfolding refusedRead
+no-turn = ap (λ (o : Outcome ReadAnswer). answerNumber (o .answer)) zeros-read
+
+-- W11: the last bit made 1
+seam : refusedRead (replicate 461 0 ++ (1 ∷ [])) ≡ 5
+unfolding refusedRead readOf readAs fitOf allBits seamAgrees same
+seam = refl
+
+-- W12: 461 zeros
+length-fits-none : refusedRead (replicate 461 0) ≡ 1
+unfolding refusedRead readOf fitOf
+length-fits-none = refl
+
+-- the sheet with these three left open
+open-sheet : ℕ → ℕ → ℕ → List ℕ
+open-sheet x y z =
+    0o00101 ∷ 0o03676 ∷ 2801775573 ∷ 1413323819 ∷ 1021 ∷ 0o03674 ∷ 802 ∷ 76 ∷ 1000 ∷ 735 ∷ 427 ∷ x ∷ y ∷ z ∷ []
+
+computed : answers ≡ open-sheet (refusedRead (replicate 462 0)) (refusedRead (replicate 461 0 ++ (1 ∷ []))) (refusedRead (replicate 461 0))
+unfolding answers open-sheet wordOf table numberFrom bitsOf scrambled scrambledFrom nextState withSum withoutSum sumOfBlocks remainder remainderFrom step sum fOf polynomial coefficientsBelow coefficientOf
+computed = refl
+
+pub bench-sheet : answers ≡ sheet
+unfolding open-sheet sheet
+bench-sheet = computed ∙ rw (no-turn, seam, length-fits-none)
