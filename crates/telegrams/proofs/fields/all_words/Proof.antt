@@ -1,16 +1,14 @@
 -- `telegrams::fields::all_words` meets its contract. The loop's invariant: the test of all words is that of the words not yet passed.
 -- Assumes nothing.
-use mathlib.Core.Path.{_≡_, refl, sym, ap, _∙_}
-use mathlib.Core.Bool.{Bool, true, false}
-use mathlib.Core.List.{List}
-use Prim.Native.Nat.{ℕ, _+_, _*_, _-_, _≤_, _<_}
+use mathlib.Core.Path.{_≡_, sym, ap, _∙_}
+use mathlib.Core.Bool.{Bool}
+use Prim.Native.Nat.{ℕ, _+_, _*_, _-_, _≤_}
 use native.Mathlib.Omega.{arith}
 use borrow.Author.Needs.{needs}
-use lib.ListN.{length, take, drop}
-use Rattle.bits.specs.Bits.{both, numberOf}
+use lib.ListN.{take, drop}
+use Rattle.bits.specs.Bits.{both}
 use Rattle.bits.proofs.AllBits.{allBits-drop}
 use Rattle.bits.proofs.Parts.{front-below}
-use Rattle.words.specs.declared.Lookup.{Lookup}
 use Rattle.words.specs.Words.{lookupOf}
 use Rattle.telegrams.specs.Fields.{isNumber, isWord, allWords}
 use Rattle.telegrams.proofs.Buffers.Blocks.{words-more, words-done}

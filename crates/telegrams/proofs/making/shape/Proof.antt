@@ -5,7 +5,7 @@ use mathlib.Core.List.{List, _++_}
 use Prim.Native.Nat.{ℕ, _+_, _*_, _-_, _≤_, _<_}
 use native.Mathlib.Omega.{arith}
 use borrow.Author.Needs.{needs}
-use lib.ListN.{length, take, drop, length-append, length-drop}
+use lib.ListN.{length, take, drop, length-drop}
 use Rattle.bits.specs.Bits.{numberOf, bitsOf}
 use Rattle.bits.proofs.AllBits.{allBits-drop}
 use Rattle.bits.proofs.Parts.{front-below}
@@ -63,9 +63,7 @@ cast-write-number : tie.Need-cast-write-number Inv-loop μ-loop
 cast-write-number c = search needs
 
 write-number-requires : tie.Need-write-number-requires Inv-loop μ-loop
-write-number-requires c κs =
-    let l = c .before .before .before .before in
-    rw (lent-is (11 * l .loop .j) (l .loop .out)) (omega arith, omega (arith, length-drop (11 * l .loop .j) (l .loop .out)))
+write-number-requires c κs = simp (lent-is, length-drop) (omega arith)
 
 add-j : tie.Need-add-j Inv-loop μ-loop
 add-j c = omega arith
@@ -87,7 +85,8 @@ loop-again c =
     let place : 11 * j + 11 ≡ 11 * (j + 1) = omega arith in (
       omega arith,
       omega arith,
-      front-more (shaped j v) (bitsOf 11 w) old (l .loop .out) (called .write-number .last .0) (11 * j) 11 (length-shaped j v) (l .loop .inv .2) (called .write-number .ensures)
+      front-more (shaped j v) (bitsOf 11 w) old (l .loop .out) (called .write-number .last .0) (11 * j) 11 (length-shaped j v) (l .loop .inv .2)
+          (called .write-number .ensures)
           ∙ ap₂ (λ (front : List ℕ) (i : ℕ). front ++ drop i old) (ap (λ (x : ℕ). shaped j v ++ bitsOf 11 x) entry ∙ sym (shaped-more j v)) place,
     )
 

@@ -1,6 +1,6 @@
 -- `telegrams::making::write_shaped_data` meets its contract, by those of `scramble` and `shape`: what stands after the scrambled bits does
 -- not count. Assumes nothing.
-use mathlib.Core.Path.{_≡_, ap, ap₂, _∙_}
+use mathlib.Core.Path.{ap, _∙_}
 use mathlib.Core.List.{List, _++_}
 use Prim.Native.Nat.{ℕ, _*_, _/_, _≤_}
 use native.Mathlib.Omega.{arith}
@@ -37,9 +37,9 @@ shape-requires c κs =
     let call = c .before .before .before in
     let start = call .before .before .before .before in
     let a = start .args in
-    let rest = drop (length (a .summed .now)) zeros in (
-      rw (call .scramble .ensures)
-          (allBits-append (scrambled (a .b) (a .summed .now)) rest (scrambled-bits (a .b) (a .summed .now)) (allBits-drop (length (a .summed .now)) zeros (allBits-zeros 830))),
+    let v = a .summed .now in
+    let rest = allBits-drop (length v) zeros (allBits-zeros 830) in (
+      rw (call .scramble .ensures) (allBits-append (scrambled (a .b) v) (drop (length v) zeros) (scrambled-bits (a .b) v) rest),
       (omega (arith, block-fits (a .format)), omega (arith, sizesOf (a .format) .n-is)),
     )
 
