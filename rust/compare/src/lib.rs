@@ -1,0 +1,50 @@
+//! What the tests in tests/ share. They compare the proved layers with the
+//! second program.
+
+use second::format::{Format, FORMATS};
+use second::random::Random;
+
+/// Whether a format is the long one: how it crosses to the layers.
+pub fn long(format: Format) -> bool {
+    format == Format::Long
+}
+
+/// The first `length` bytes of a buffer after `write`, which must keep the
+/// rest. The buffer holds random bytes before.
+pub fn written(random: &mut Random, length: usize, write: impl Fn(&mut [u8])) -> Vec<u8> {
+    let spare = random.below(40);
+    let mut out: Vec<u8> = (0..length + spare).map(|_| random.number() as u8).collect();
+    let tail = out[length..].to_vec();
+    write(&mut out);
+    assert_eq!(out.split_off(length), tail);
+    out
+}
+
+/// The first two words of a buffer after `write`, the high one first, as a
+/// number. `write` must keep the rest of the buffer.
+pub fn two_words(random: &mut Random, write: impl Fn(&mut [u64])) -> u128 {
+    let mut out: Vec<u64> = (0..2 + random.below(4)).map(|_| random.number()).collect();
+    let tail = out[2..].to_vec();
+    write(&mut out);
+    assert_eq!(out[2..], tail);
+    u128::from(out[0]) << 64 | u128::from(out[1])
+}
+
+/// Lists of this length: all 0, all 1, and for each period from 2 to 12 a 1 at
+/// its multiples, upright and flipped.
+pub fn patterns(length: usize) -> Vec<Vec<u8>> {
+    let mut lists = vec![vec![0; length], vec![1; length]];
+    for period in 2..=12 {
+        let list: Vec<u8> = (0..length).map(|i| u8::from(i % period == 0)).collect();
+        lists.push(second::bits::flip(&list));
+        lists.push(list);
+    }
+    lists
+}
+
+/// Runs a test with each format and a source of numbers.
+pub fn both_formats(seed: u64, test: impl Fn(Format, &mut Random)) {
+    for format in FORMATS {
+        test(format, &mut Random::new(seed));
+    }
+}
