@@ -1,9 +1,75 @@
-// Checking a telegram.
+// Checking a telegram (document 01, "When the bench says no": refusals 1, 2 and 6 to 12, the lowest that applies).
+ghost use mathlib.Core.Path.{_≡_};
+ghost use lib.Dec.{T};
+ghost use lib.ListN.{length};
+ghost use Rattle.bits.specs.Bits.{allBits};
+ghost use Rattle.formats.specs.Numbers.{numbersOf};
+ghost use Rattle.telegrams.specs.Fields.{wellFormed};
+ghost use Rattle.checker.specs.Checking.{checkAs, checkOf};
+use conditions::off_step;
+use conditions::repeating;
+use conditions::thinned;
+use cyclic::divisors;
+use formats::format;
+use formats::format::Fit;
 use formats::format::Format;
+use formats::format::Long;
+use formats::format::Short;
 use formats::refusal::Refusal;
+use telegrams::fields;
 
 // What checking a telegram answers.
 pub enum Checked {
     Proper(Format),
     Refused(Refusal),
+}
+
+// Refusals 10 to 12 of a well-formed telegram: conditions 2, 3 and 4.
+fn check_conditions(format: Format, telegram: &[u8]) -> Checked
+    requires { ⌜ T (wellFormed (numbersOf format) (now telegram)) ⌝ }
+    ensures { λ r. ⌜ r ≡ checkAs format (now (telegram .entry)) ⌝ }
+{
+    if !off_step::off_step(format, telegram) {
+        return Checked::Refused(Refusal::OffStep);
+    }
+    if !repeating::not_repeating(format, telegram) {
+        return Checked::Refused(Refusal::Repeating);
+    }
+    if !thinned::thinned_out(format, telegram) {
+        return Checked::Refused(Refusal::Thinned);
+    }
+    Checked::Proper(format)
+}
+
+// Refusals 6 to 9 of as many bits as the format's telegram has, and then the conditions.
+fn check_form(format: Format, telegram: &[u8]) -> Checked
+    requires { ⌜ T (allBits (now telegram)) × (length (now telegram) ≡ numbersOf format .n) ⌝ }
+    ensures { λ r. ⌜ r ≡ checkAs format (now (telegram .entry)) ⌝ }
+{
+    if !divisors::divisible(format, telegram) {
+        return Checked::Refused(Refusal::NotDivisible);
+    }
+    if !divisors::unturned(format, telegram) {
+        return Checked::Refused(Refusal::NoTurn);
+    }
+    if !fields::has_control(format, telegram) {
+        return Checked::Refused(Refusal::Control);
+    }
+    if !fields::all_words(telegram, format::words(format)) {
+        return Checked::Refused(Refusal::NotWord);
+    }
+    check_conditions(format, telegram)
+}
+
+// Whether the bytes are a proper telegram, and of which format; else the lowest refusal that applies.
+pub fn check(telegram: &[u8]) -> Checked
+    ensures { λ r. ⌜ r ≡ checkOf (now (telegram .entry)) ⌝ }
+{
+    let Fit::As(format) = format::of_length(Long::N, Short::N, telegram.len()) else {
+        return Checked::Refused(Refusal::Length);
+    };
+    if !bits::all_bits(telegram) {
+        return Checked::Refused(Refusal::NotBit);
+    }
+    check_form(format, telegram)
 }

@@ -1,23 +1,26 @@
 -- What encoding a block answers, test by test. Assumes nothing.
-use mathlib.Core.Path.{_≡_, refl, sym, ap, _∙_}
+use mathlib.Core.Path.{_≡_, refl, ap, _∙_}
 use mathlib.Core.Bool.{Bool, true, false}
 use mathlib.Core.List.{List, _++_}
-use Prim.Native.Nat.{ℕ, _+_, _/_, _%_, _≤_, _<_}
+use Prim.Native.Nat.{ℕ, _+_, _*_, _/_, _%_, _≤_, _<_}
 use native.Mathlib.Omega.{arith}
-use borrow.Author.Tests.{le-leb, lt-leb}
-use lib.Dec.{T, leb}
+use borrow.Author.Tests.{le-leb, lt-leb, eqb-true}
+use lib.Dec.{eqb}
 use lib.ListN.{length, drop}
 use Rattle.bits.specs.Bits.{allBits}
+use Rattle.bits.specs.Search.{First, found, none}
 use Rattle.formats.specs.declared.format.Format.{Format}
 use Rattle.formats.specs.declared.format.Format.the-variants.{Long, Short}
 use Rattle.formats.specs.declared.format.Fit.{Fit}
 use Rattle.formats.specs.declared.format.Fit.the-variants.{As, Nothing}
-use Rattle.formats.specs.declared.refusal.Refusal.the-variants.{Length, NotBit, OutputShort}
-use Rattle.formats.specs.Numbers.{long, short, numbersOf, fitOf}
-use Rattle.formats.specs.Outcome.{Outcome, outcome, orRefuse}
-use Rattle.encoder.specs.declared.Encoded.{Encoded}
-use Rattle.encoder.specs.declared.Encoded.the-variants.{Refused}
-use Rattle.encoder.specs.Encoding.{firstPair, written, encodeAs, encodeFit, encodeOf}
+use Rattle.formats.specs.declared.refusal.Refusal.the-variants.{Length, NotBit, OutputShort, NoPair}
+use Rattle.formats.specs.Numbers.{long, short, numbersOf, pickFit, fitOf}
+use Rattle.formats.specs.Outcome.{outcome}
+use Rattle.telegrams.specs.Telegram.{telegramOf}
+use Rattle.encoder.specs.declared.Encoded.the-variants.{Pair, Refused}
+use Rattle.encoder.specs.declared.search.Search.{Search}
+use Rattle.encoder.specs.Encoding.{pairCount, telegramAt, firstPair, written, encodeAs, encodeFit, encodeOf}
+use Rattle.encoder.specs.Searched.{searchOf}
 
 -- the length fits no format
 pub length-refused : (u out : List ℕ) → fitOf (long .m) (short .m) (length u) ≡ Nothing → encodeOf u out ≡ outcome (Refused Length) out
@@ -50,3 +53,44 @@ pub fits-block : (format : Format) (size : ℕ) → size ≡ numbersOf format .m
 unfolding fitOf
 fits-block Long size e = rw e
 fits-block Short size e = rw e
+
+-- and the length that picks it
+pub block-size : (format : Format) (size : ℕ) → fitOf (long .m) (short .m) size ≡ As format → size ≡ numbersOf format .m
+unfolding fitOf
+block-size format size e = go (eqb size (long .m)) (eqb size (short .m)) refl refl e
+  where
+    go : (isLong isShort : Bool) → eqb size (long .m) ≡ isLong → eqb size (short .m) ≡ isShort
+        → pickFit isLong (As Long) (pickFit isShort (As Short) Nothing) ≡ As format → size ≡ numbersOf format .m
+    go true isShort p q h =
+        let fit : Long ≡ format = cc in
+        eqb-true size (long .m) p ∙ ap (λ (f : Format). numbersOf f .m) fit
+    go false true p q h =
+        let fit : Short ≡ format = cc in
+        eqb-true size (short .m) q ∙ ap (λ (f : Format). numbersOf f .m) fit
+    go false false p q h =
+        let z : _≡_ {A = ℕ} 0 1 = cc in
+        absurd (omega arith)
+
+-- ---- what is written, by the search's answer
+
+-- the first pair is of B and esb, and left is its telegram over the front of the output
+pub pair-written : (format : Format) (u out left : List ℕ) (first : First) (B esb : ℕ) → searchOf first ≡ Search.Pair B esb
+    → left ≡ telegramOf (numbersOf format) u B esb ++ drop (numbersOf format .n) out
+    → written format u out first ≡ outcome (Pair format B esb (1024 * B + esb + 1)) left
+unfolding telegramAt
+pair-written format u out left (found p) B esb e l =
+    let same-B : p / 1024 ≡ B = cc in
+    let same-esb : p % 1024 ≡ esb = cc in
+    let count : p + 1 ≡ 1024 * B + esb + 1 = omega arith in
+    rw (l, ← count, ← same-B, ← same-esb)
+pair-written format u out left none B esb e l =
+    let z : _≡_ {A = ℕ} 0 1 = cc in
+    absurd (omega arith)
+
+-- no pair is proper
+pub none-written : (format : Format) (u out : List ℕ) (first : First) → searchOf first ≡ Search.Nothing
+    → written format u out first ≡ outcome (Refused (NoPair pairCount)) out
+none-written format u out (found p) e =
+    let z : _≡_ {A = ℕ} 0 1 = cc in
+    absurd (omega arith)
+none-written format u out none e = refl

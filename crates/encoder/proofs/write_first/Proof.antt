@@ -1,0 +1,73 @@
+-- `encoder::write_first` meets its contract, by those of `first_pair` and `make`. Assumes nothing.
+use mathlib.Core.Path.{sym, _∙_}
+use borrow.Author.Needs.{needs}
+use Rattle.encoder.specs.Encoding.{firstPair}
+use Rattle.encoder.proofs.Steps.{pair-written, none-written}
+use Rattle.encoder.proofs.write_first.Statement.{statement}
+use Rattle.encoder.proofs.write_first.Tie as tie
+
+first-pair-requires : tie.Need-first-pair-requires
+first-pair-requires c κs = search needs
+
+enum-known-scrambling : tie.Need-enum-known-scrambling
+enum-known-scrambling c = search needs
+
+enum-told : tie.Need-enum-told
+enum-told c = search needs
+
+returns : tie.Need-returns
+returns c =
+    let call = c .before .before in
+    let a = call .before .before .before .args in
+    none-written (a .format) (a .block .now) (a .output .now) (firstPair (a .format) (a .block .now))
+    (sym (call .first-pair .ensures) ∙ c .enum-told .given .1)
+
+make-requires : tie.Need-make-requires
+make-requires c κs = search needs
+
+cast-t11 : tie.Need-cast-t11
+cast-t11 c = search needs
+
+mul-t12 : tie.Need-mul-t12
+mul-t12 c = search needs
+
+cast-t13 : tie.Need-cast-t13
+cast-t13 c = search needs
+
+add-t14 : tie.Need-add-t14
+add-t14 c = search needs
+
+add-t15 : tie.Need-add-t15
+add-t15 c = search needs
+
+same-length : tie.Need-same-length
+same-length c = search needs
+
+returns-2 : tie.Need-returns-2
+returns-2 c =
+    let made = c .before .before in
+    let pair = made .before .before .before in
+    let call = pair .before .before in
+    let a = call .before .before .before .args in
+    let B = pair .scrambling .given .0 .0 in
+    let esb = pair .scrambling .given .0 .1 .0 in
+    pair-written (a .format) (a .block .now) (a .output .now) (made .make .last .1 .1 .1 .1 .0) (firstPair (a .format) (a .block .now)) B esb
+    (sym (call .first-pair .ensures) ∙ pair .scrambling .given .1)
+    (made .make .ensures)
+
+pub write-first-spec : {M : Type 1} → statement M
+write-first-spec =
+    tie.close
+    (tie.spec
+    first-pair-requires
+    enum-known-scrambling
+    enum-told
+    returns
+    make-requires
+    cast-t11
+    mul-t12
+    cast-t13
+    add-t14
+    add-t15
+    same-length
+    returns-2)
