@@ -1,0 +1,170 @@
+-- `reader::telegram::read_telegram` meets its contract: the answer at each test, and the user bits where all are passed. Assumes nothing.
+use mathlib.Core.Path.{_≡_, sym, ap, ap₂, _∙_}
+use mathlib.Core.Bool.{true}
+use mathlib.Core.List.{List, _++_}
+use Prim.Native.Nat.{ℕ, _*_}
+use native.Mathlib.Omega.{arith}
+use borrow.Author.Needs.{needs}
+use borrow.Author.Tests.{not-true, not-false}
+use lib.ListN.{drop, replicate}
+use lib.Seq.{length-take-le}
+use Rattle.bits.proofs.Tests.{holds}
+use Rattle.formats.specs.declared.refusal.Refusal.{Refusal}
+use Rattle.formats.specs.Numbers.{numbersOf, blocks}
+use Rattle.formats.specs.Outcome.{outcome}
+use Rattle.formats.proofs.Sizes.{sizesOf}
+use Rattle.cyclic.specs.Check.{same}
+use Rattle.telegrams.specs.Telegram.{control}
+use Rattle.telegrams.specs.Fields.{controlOf, allWords, unshaped}
+use Rattle.telegrams.proofs.Shaping.{length-unshaped, bits-unshaped}
+use Rattle.telegrams.proofs.Buffers.Completed.{block-fits}
+use Rattle.reader.specs.declared.ReadAnswer.the-variants.{Read, Refused}
+use Rattle.reader.specs.Reads.{readingOf}
+use Rattle.reader.proofs.Steps.{control-refused, word-refused, accepted}
+use Rattle.reader.proofs.Parts.Answers.{refused-words, whole-words}
+use Rattle.reader.proofs.Parts.UserBits.{data-blocks, user-bits}
+use Rattle.reader.proofs.telegram.read_telegram.Statement.{statement}
+use Rattle.reader.proofs.telegram.read_telegram.Tie as tie
+
+-- the array that the blocks go into
+abbrev zeros : List ℕ
+zeros = replicate 930 0
+
+has-control-requires : tie.Need-has-control-requires
+has-control-requires c κs = search needs
+
+returns : tie.Need-returns
+returns c =
+    let a = c .before .before .before .before .args in
+    control-refused (a .format) (a .t) (a .flipped) (a .telegram .now) (a .output .now)
+    (sym (c .before .has-control .ensures) ∙ not-true _ (c .if1 .taken))
+
+-- the control bits are 0, 0, 1
+controlled : (c : tie.Else1) →
+    let a = c .before .before .before .before .args in
+    same (controlOf (numbersOf (a .format)) (a .telegram .now)) control ≡ true
+controlled c = sym (c .before .has-control .ensures) ∙ not-false _ (c .if1 .left)
+
+words-requires : tie.Need-words-requires
+words-requires c κs = search needs
+
+slice-aggregate-unshape : tie.Need-slice-aggregate-unshape
+slice-aggregate-unshape c = search needs
+
+unshape-requires : tie.Need-unshape-requires
+unshape-requires c κs =
+    let start = c .before .before .before .before .before .before in
+    let S = sizesOf (start .args .format) in
+    (start .pre .0, (omega (arith, S), omega (arith, S, block-fits (start .args .format))))
+
+enum-known-answer : tie.Need-enum-known-answer
+enum-known-answer c = search needs
+
+returns-2 : tie.Need-returns-2
+returns-2 c =
+    let told = c .before in
+    let call = told .before .before .before in
+    let words = call .before .before in
+    let a = words .before .before .before .before .before .args in
+    let refusal = told .answer .given .0 .0 in
+    let known = refused-words (allWords (words .words .result) (a .telegram .now)) refusal (sym (told .answer .given .1) ∙ call .unshape .ensures .0) in
+    word-refused (a .format) (a .t) (a .flipped) (a .telegram .now) (a .output .now) (controlled (words .before))
+    (ap (λ (k : ℕ). allWords k (a .telegram .now)) (sym (words .words .ensures)) ∙ known .0)
+    ∙ ap (λ (x : Refusal). outcome (Refused x) (a .output .now)) (sym (known .1))
+
+enum-told : tie.Need-enum-told
+enum-told c = search needs
+
+-- all words are in the table
+worded : (c : tie.After-enum-told) →
+    let words = c .before .before .before .before .before in
+    allWords (words .words .result) (words .before .before .before .before .before .args .telegram .now) ≡ true
+worded c =
+    let call = c .before .before .before in
+    let words = call .before .before in
+    let b = words .before .before .before .before .before .args .telegram .now in
+    whole-words (allWords (words .words .result) b) (sym (c .enum-told .given .1) ∙ call .unshape .ensures .0)
+
+-- and their blocks stand in the array
+filled : (c : tie.After-enum-told) →
+    let call = c .before .before .before in
+    let words = call .before .before in
+    let b = words .before .before .before .before .before .args .telegram .now in
+    call .unshape .last .1 .1 .0 ≡ unshaped (words .words .result) b ++ drop (10 * words .words .result) zeros
+filled c = c .before .before .before .unshape .ensures .1 (holds _ (worded c))
+
+scrambling-bits-requires : tie.Need-scrambling-bits-requires
+scrambling-bits-requires c κs = search needs
+
+user-bits-requires : tie.Need-user-bits-requires
+user-bits-requires c κs = search needs
+
+array-share-prefix-unshaped : tie.Need-array-share-prefix-unshaped
+array-share-prefix-unshaped c =
+    let start = c .before .before .before .before .before .before .before .before .before .before .before .before in
+    omega (arith, block-fits (start .args .format), c .before .before .before .before .before .unshape .kept)
+
+slice-aggregate-write-user-bits : tie.Need-slice-aggregate-write-user-bits
+slice-aggregate-write-user-bits c =
+    sym (length-take-le (c .before .user-bits .result) (c .before .before .before .before .before .before .unshape .last .1 .1 .0) (array-share-prefix-unshaped (c .before)))
+
+write-user-bits-requires : tie.Need-write-user-bits-requires
+write-user-bits-requires c κs =
+    let bits = c .before .before in
+    let told = bits .before .before in
+    let call = told .before .before .before in
+    let words = call .before .before in
+    let start = words .before .before .before .before .before in
+    let a = start .args in
+    let F = numbersOf (a .format) in
+    let S = sizesOf (a .format) in
+    let b = a .telegram .now in
+    let u = call .unshape .last .1 .1 .0 in
+    let size = length-unshaped (blocks F) b in
+    rw (data-blocks F S b u (drop (10 * words .words .result) zeros) (words .words .result) (bits .user-bits .result)
+    (words .words .ensures) (bits .user-bits .ensures) (filled told))
+    (bits-unshaped (blocks F) b, ((omega (arith, size, S), omega (arith, size, S, block-fits (a .format))), omega (arith, size, S, start .pre .1 .1)))
+
+same-length : tie.Need-same-length
+same-length c = search needs
+
+returns-3 : tie.Need-returns-3
+unfolding readingOf
+returns-3 c =
+    let wrote = c .before .before in
+    let bits = wrote .before .before .before in
+    let told = bits .before .before in
+    let call = told .before .before .before in
+    let words = call .before .before in
+    let start = words .before .before .before .before .before in
+    let a = start .args in
+    let F = numbersOf (a .format) in
+    let b = a .telegram .now in
+    let u = call .unshape .last .1 .1 .0 in
+    let B = bits .before .scrambling-bits .result in
+    let B-is = bits .before .scrambling-bits .ensures in
+    let written = user-bits F (sizesOf (a .format)) b u (drop (10 * words .words .result) zeros) (words .words .result) (bits .user-bits .result) (words .words .ensures) (bits .user-bits .ensures) (filled told)
+    B B-is (a .output .now) (wrote .write-user-bits .last .1 .1 .0) (wrote .write-user-bits .ensures) in
+    accepted (a .format) (a .t) (a .flipped) b (a .output .now) (controlled (words .before))
+    (ap (λ (k : ℕ). allWords k b) (sym (words .words .ensures)) ∙ worded told)
+    ∙ ap₂ (λ (x : ℕ) (o : List ℕ). outcome (Read (record { format = a .format; scrambling = x; turn = a .t; flipped = a .flipped })) o) (sym B-is) (sym written)
+
+pub read-telegram-spec : {M : Type 1} → statement M
+read-telegram-spec =
+    tie.close
+    (tie.spec
+    has-control-requires
+    returns
+    words-requires
+    slice-aggregate-unshape
+    unshape-requires
+    enum-known-answer
+    returns-2
+    enum-told
+    scrambling-bits-requires
+    user-bits-requires
+    array-share-prefix-unshaped
+    slice-aggregate-write-user-bits
+    write-user-bits-requires
+    same-length
+    returns-3)

@@ -1,0 +1,171 @@
+-- `reader::unshaping::unshape` meets its contract. The loop's invariant: the blocks of the first j words stand in front, the rest is as it
+-- was, and the test of all words is that of the words not yet passed. Assumes nothing.
+use mathlib.Core.Path.{_≡_, refl, sym, ap, ap₂, _∙_}
+use mathlib.Core.Bool.{Bool, true, false}
+use mathlib.Core.List.{List, _++_}
+use Prim.Native.Nat.{ℕ, _+_, _*_, _-_, _≤_}
+use native.Mathlib.Omega.{arith}
+use borrow.Author.Needs.{needs}
+use lib.ListN.{length, take, drop, length-drop}
+use Rattle.bits.specs.Bits.{both, numberOf, bitsOf}
+use Rattle.bits.proofs.AllBits.{allBits-drop}
+use Rattle.bits.proofs.Parts.{front-below}
+use Rattle.bits.proofs.Tests.{fails}
+use Rattle.words.specs.Words.{lookupOf}
+use Rattle.telegrams.specs.Fields.{numberIn, isNumber, isWord, allWords, unshaped}
+use Rattle.telegrams.proofs.Shaping.{length-unshaped}
+use Rattle.telegrams.proofs.Buffers.Blocks.{words-more, words-done}
+use Rattle.telegrams.proofs.Buffers.Fronts.{lent-is, front-more}
+use Rattle.reader.specs.AllWords.{wholeIf}
+use Rattle.reader.proofs.Parts.Blocks.{unshaped-more}
+use Rattle.reader.proofs.unshaping.unshape.Statement.{statement}
+use Rattle.reader.proofs.unshaping.unshape.Tie as tie
+
+abbrev Inv-loop : tie.InvT-loop
+Inv-loop telegram k out₀ j₀ out j =
+    (j ≤ k) × (length out ≡ length out₀) × (allWords k telegram ≡ allWords (k - j) (drop (11 * j) telegram))
+    × (out ≡ unshaped j telegram ++ drop (10 * j) out₀)
+
+abbrev μ-loop : tie.MeasureT-loop
+μ-loop telegram k out₀ j₀ out j = k - j
+
+loop-holds : tie.Need-loop-holds Inv-loop μ-loop
+unfolding unshaped
+loop-holds c = (omega arith, refl, ap (λ (i : ℕ). allWords i (c .before .before .args .telegram .now)) (omega arith), refl)
+
+mul-number : tie.Need-mul-number Inv-loop μ-loop
+mul-number c = omega arith
+
+number-requires : tie.Need-number-requires Inv-loop μ-loop
+number-requires c κs = (omega arith, (omega arith, c .before .before .before .before .pre .0))
+
+cast-look-up : tie.Need-cast-look-up Inv-loop μ-loop
+cast-look-up c =
+    let start = c .before .before .before .before .before in
+    let s = start .args .telegram .now in
+    let at = 11 * c .before .before .loop .j in
+    omega (arith, c .number .ensures, front-below 11 (drop at s) (allBits-drop at s (start .pre .0)))
+
+look-up-requires : tie.Need-look-up-requires Inv-loop μ-loop
+look-up-requires c κs = search needs
+
+-- the next word, and what is found of it
+module _ (c : tie.After-look-up Inv-loop μ-loop) where
+  found : lookupOf (numberOf (take 11 (drop (11 * c .before .before .before .loop .j) (c .before .before .before .before .before .before .args .telegram .now))))
+      ≡ c .look-up .result
+  found = sym (c .look-up .ensures ∙ ap lookupOf (c .before .number .ensures))
+
+  next : isWord (take 11 (drop (11 * c .before .before .before .loop .j) (c .before .before .before .before .before .before .args .telegram .now)))
+      ≡ isNumber (c .look-up .result)
+  unfolding isWord
+  next = ap isNumber found
+
+enum-known-i : tie.Need-enum-known-i Inv-loop μ-loop
+enum-known-i c = search needs
+
+enum-told : tie.Need-enum-told Inv-loop μ-loop
+enum-told c = search needs
+
+same-length : tie.Need-same-length Inv-loop μ-loop
+same-length c = c .before .before .before .before .before .loop .inv .1
+
+returns : tie.Need-returns Inv-loop μ-loop
+returns c =
+    let l = c .before .before .before .before .before in
+    let a = l .before .before .before .args in
+    let j = l .loop .j in
+    let others = allWords (a .k - (j + 1)) (drop (11 * (j + 1)) (a .telegram .now)) in
+    let none : allWords (a .k) (a .telegram .now) ≡ false =
+    l .loop .inv .2 ∙ words-more (a .k) j (a .telegram .now) (omega arith)
+    ∙ ap (λ (t : Bool). both t others) (next (c .before .before) ∙ ap isNumber (c .enum-told .given .1)) in
+    (ap wholeIf (sym none), λ h. absurd (fails (allWords (a .k) (a .telegram .now)) none h))
+
+mul-at : tie.Need-mul-at Inv-loop μ-loop
+mul-at c = omega arith
+
+sub-write-number : tie.Need-sub-write-number Inv-loop μ-loop
+sub-write-number c = omega arith
+
+part-write-number-start : tie.Need-part-write-number-start Inv-loop μ-loop
+part-write-number-start c = omega arith
+
+part-write-number-end : tie.Need-part-write-number-end Inv-loop μ-loop
+part-write-number-end c = omega arith
+
+cast-write-number : tie.Need-cast-write-number Inv-loop μ-loop
+cast-write-number c = search needs
+
+write-number-requires : tie.Need-write-number-requires Inv-loop μ-loop
+write-number-requires c κs =
+    let l = c .before .before .before .before .before .before .before in
+    rw (lent-is (10 * l .loop .j) (l .loop .out)) (omega arith, omega (arith, length-drop (10 * l .loop .j) (l .loop .out)))
+
+add-j : tie.Need-add-j Inv-loop μ-loop
+add-j c = omega arith
+
+loop-less : tie.Need-loop-less Inv-loop μ-loop
+loop-less c = omega arith
+
+loop-again : tie.Need-loop-again Inv-loop μ-loop
+loop-again c =
+    let called = c .before .before in
+    let word = called .before .before .before in
+    let look = word .before .before in
+    let l = look .before .before .before in
+    let start = l .before .before .before in
+    let b = start .args .telegram .now in
+    let k = start .args .k in
+    let old = start .args .out .now in
+    let j = l .loop .j in
+    let i = word .i .given .0 .0 in
+    let others = allWords (k - (j + 1)) (drop (11 * (j + 1)) b) in
+    let number : i ≡ numberIn (lookupOf (numberOf (take 11 (drop (11 * j) b)))) = sym (ap numberIn (found look ∙ word .i .given .1)) in
+    let place : 10 * j + 10 ≡ 10 * (j + 1) = omega arith in
+    let written =
+    front-more (unshaped j b) (bitsOf 10 i) old (l .loop .out) (called .write-number .last .0) (10 * j) 10 (length-unshaped j b) (l .loop .inv .3) (called .write-number .ensures) in (
+      omega arith,
+      omega arith,
+      l .loop .inv .2 ∙ words-more k j b (omega arith) ∙ ap (λ (t : Bool). both t others) (next look ∙ ap isNumber (word .i .given .1)),
+      written ∙ ap₂ (λ (front : List ℕ) (p : ℕ). front ++ drop p old) (ap (λ (x : ℕ). unshaped j b ++ bitsOf 10 x) number ∙ sym (unshaped-more j b)) place,
+    )
+
+same-length-2 : tie.Need-same-length-2 Inv-loop μ-loop
+same-length-2 c = c .before .loop .inv .1
+
+returns-2 : tie.Need-returns-2 Inv-loop μ-loop
+returns-2 c =
+    let l = c .before in
+    let a = l .before .before .before .args in
+    let all : l .loop .j ≡ a .k = omega arith in
+    let whole : allWords (a .k) (a .telegram .now) ≡ true =
+    l .loop .inv .2 ∙ words-done (a .k) (l .loop .j) (drop (11 * l .loop .j) (a .telegram .now)) (omega arith) in (
+      ap wholeIf (sym whole),
+      λ h. l .loop .inv .3 ∙ ap (λ (j : ℕ). unshaped j (a .telegram .now) ++ drop (10 * j) (a .out .now)) all,
+    )
+
+pub unshape-spec : {M : Type 1} → statement M
+unshape-spec =
+    tie.close
+    (tie.spec
+    Inv-loop
+    μ-loop
+    loop-holds
+    mul-number
+    number-requires
+    cast-look-up
+    look-up-requires
+    enum-known-i
+    enum-told
+    same-length
+    returns
+    mul-at
+    sub-write-number
+    part-write-number-start
+    part-write-number-end
+    cast-write-number
+    write-number-requires
+    add-j
+    loop-less
+    loop-again
+    same-length-2
+    returns-2)

@@ -1,0 +1,82 @@
+// Reading the telegram that a window has at a turn (document 01, "Search, reading and place").
+ghost use mathlib.Core.Path.{_≡_};
+ghost use mathlib.Core.List.{_++_};
+ghost use Prim.Native.Nat.{_/_, _≤_};
+ghost use lib.Dec.{T};
+ghost use lib.ListN.{length, drop};
+ghost use Rattle.bits.specs.Bits.{allBits};
+ghost use Rattle.formats.specs.Numbers.{numbersOf};
+ghost use Rattle.formats.specs.Outcome.{outcome};
+ghost use Rattle.scrambling.specs.Scrambling.{descrambled};
+ghost use Rattle.scrambling.specs.Sum.{withoutSum};
+ghost use Rattle.reader.specs.Reads.{readTelegram, readTurn};
+use crate::ReadAnswer;
+use crate::Reading;
+use crate::turned;
+use crate::unshaping;
+use crate::unshaping::Unshaped;
+use cyclic::Turn;
+use formats::format;
+use formats::format::Format;
+use formats::format::Long;
+use formats::refusal::Refusal;
+use telegrams::fields;
+
+// The user bits, from the scrambled ones and the scrambling bits b, over the front of output.
+fn write_user_bits(b: u16, scrambled: &[u8], output: &mut [u8])
+    requires { ⌜ T (allBits (now scrambled)) ⌝ }
+    requires { ⌜ (10 ≤ length (now scrambled)) × (length (now scrambled) ≤ 1000) ⌝ }
+    requires { ⌜ length (now scrambled) ≤ length (now output) ⌝ }
+    ensures { λ _. ⌜ now (output .exit) ≡ withoutSum (length (now (scrambled .entry)) / 10) (descrambled b (now (scrambled .entry))) ++ drop (length (now (scrambled .entry))) (now (output .entry)) ⌝ }
+{
+    scrambling::descramble(b as u32, scrambled, output);
+    let m = scrambled.len();
+    scrambling::remove_sum(&mut output[..m]);
+}
+
+// Reads the telegram found at the turn t.
+fn read_telegram(
+    format: Format,
+    t: usize,
+    flipped: bool,
+    telegram: &[u8],
+    output: &mut [u8],
+) -> ReadAnswer
+    requires { ⌜ T (allBits (now telegram)) ⌝ }
+    requires { ⌜ length (now telegram) ≡ numbersOf format .n ⌝ }
+    requires { ⌜ numbersOf format .m ≤ length (now output) ⌝ }
+    ensures { λ r. ⌜ readTelegram format t flipped (now (telegram .entry)) (now (output .entry)) ≡ outcome r (now (output .exit)) ⌝ }
+{
+    if !fields::has_control(format, telegram) {
+        return ReadAnswer::Refused(Refusal::Control);
+    }
+    let mut unshaped = [0u8; 10 * Long::WORDS];
+    let words = format::words(format);
+    let answer = unshaping::unshape(telegram, words, &mut unshaped);
+    if let Unshaped::Refused(refusal) = answer {
+        return ReadAnswer::Refused(refusal);
+    }
+    let b = fields::scrambling_bits(format, telegram);
+    let m = format::user_bits(format);
+    write_user_bits(b, &unshaped[..m], output);
+    ReadAnswer::Read(Reading {
+        format,
+        scrambling: b,
+        turn: t,
+        flipped,
+    })
+}
+
+// Reads the telegram that the window has at the turn t.
+pub fn read_turned(format: Format, t: usize, window: &[u8], output: &mut [u8]) -> ReadAnswer
+    requires { ⌜ T (allBits (now window)) ⌝ }
+    requires { ⌜ numbersOf format .n ≤ length (now window) ⌝ }
+    requires { ⌜ t ≤ numbersOf format .n ⌝ }
+    requires { ⌜ numbersOf format .m ≤ length (now output) ⌝ }
+    ensures { λ r. ⌜ readTurn format (Turn.At t) (now (window .entry)) (now (output .entry)) ≡ outcome r (now (output .exit)) ⌝ }
+{
+    let mut telegram = [0u8; Long::N];
+    let flipped = turned::telegram_in(format, t, window, &mut telegram);
+    let n = format::telegram_bits(format);
+    read_telegram(format, t, flipped, &telegram[..n], output)
+}
