@@ -15,7 +15,6 @@ use Rattle.cyclic.proofs.Formats.{factsOf}
 use Rattle.telegrams.specs.Telegram.{telegramOf}
 use Rattle.telegrams.proofs.WellFormed.{made-well-formed}
 use Rattle.conditions.specs.Conditions.{offStep, notRepeating, thinnedOut, proper}
-use Rattle.encoder.specs.declared.search.Search.{Search}
 use Rattle.encoder.specs.declared.search.Search.the-variants.{Pair}
 use Rattle.encoder.specs.Encoding.{telegramAt, passes}
 use Rattle.encoder.specs.Searched.{madeProper, searchOf}

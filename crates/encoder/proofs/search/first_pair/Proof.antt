@@ -184,7 +184,7 @@ tested c =
     let call = c .before .before .before in
     let a = start (outer (inner call) .before) .args in
     sym (c .passes .ensures ∙ ap (madeProper (a .format)) (telegram-front call)
-    ∙ pair-passes (a .format) (a .block .now) (outer (inner call) .loop .b) (inner call .loop2 .esb) (call .before .before .loop2-test .taken))
+    ∙ pair-passes (a .format) (a .block .now) (outer (inner call) .loop .b) (inner call .loop2 .esb) (omega arith))
 
 add-esb : tie.Need-add-esb Inv-loop2 μ-loop2 Inv-loop μ-loop Inv-search μ-search
 add-esb c = omega arith
@@ -221,7 +221,7 @@ returns c =
     let b = outer (inner call) .loop .b in
     let esb = inner call .loop2 .esb in
     sym (ap searchOf (left-found (inner call .loop2 .inv .2) (omega arith) (tested (c .before) ∙ c .if1 .taken))
-    ∙ pair-searched b esb (call .before .before .loop2-test .taken))
+    ∙ pair-searched b esb (omega arith))
 
 returns-2 : tie.Need-returns-2 Inv-loop2 μ-loop2 Inv-loop μ-loop Inv-search μ-search
 returns-2 c = sym (ap searchOf (left-none (c .before .loop .inv .1) (omega arith)))

@@ -1,0 +1,3 @@
+pub mod SomeText
+pub mod Taken
+pub mod TextOfBits

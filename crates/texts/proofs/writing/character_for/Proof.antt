@@ -1,0 +1,13 @@
+-- `texts::writing::character_for` meets its contract. Assumes nothing.
+use borrow.Author.Tests.{eq-eqb, ne-eqb}
+use Rattle.texts.proofs.writing.character_for.Statement.{statement}
+use Rattle.texts.proofs.writing.character_for.Tie as tie
+
+returns : tie.Need-returns
+returns c = simp (eq-eqb _ _ (c .if1 .taken))
+
+returns-2 : tie.Need-returns-2
+returns-2 c = simp (ne-eqb _ _ (c .if1 .left))
+
+pub character-for-spec : {M : Type 1} → statement M
+character-for-spec = tie.close (tie.spec returns returns-2)

@@ -1,0 +1,21 @@
+-- What reading standard input comes to. Which text is read no contract can name. Assumes nothing.
+use Prim.Native.Nat.{ℕ}
+use mathlib.Core.Path.{_≡_}
+use mathlib.Core.List.{List}
+use Rattle.formats.specs.Outcome.{Outcome}
+use Rattle.texts.specs.declared.input.Turn.{Turn}
+use Rattle.texts.specs.declared.input.Turn.the-variants.{More, End, Bad}
+use Rattle.texts.specs.declared.reading.Progress.{Progress}
+use Rattle.texts.specs.declared.reading.Progress.the-variants.{Count}
+use Rattle.texts.specs.declared.reading.Progress.the-variants.{Bad as Bad-text}
+use Rattle.texts.specs.Reading.{takenInto}
+
+-- the answer and the buffer are those of some text after the first count bits of the old buffer
+abbrev pub OfSomeText : Outcome Progress → ℕ → List ℕ → Type 0
+OfSomeText o count old = (text : List ℕ) × (o ≡ takenInto old count text)
+
+-- the progress after a turn that began with count bits
+abbrev pub turned : ℕ → Turn → Progress
+turned count (More n) = Count n
+turned count End = Count count
+turned count Bad = Bad-text
