@@ -3,7 +3,7 @@
 use Prim.Native.Nat.{ℕ, suc, _≤_, zero-le}
 use mathlib.Core.Path.{_≡_, refl, sym, ap, subst, _∙_}
 use mathlib.Core.Bool.{Bool, true, false}
-use mathlib.Core.Logic.{_↔_, ⊎-elim}
+use mathlib.Core.Logic.{_↔_, _⊎_, inl, inr}
 use mathlib.Core.List.{List, [], _∷_}
 use native.Mathlib.Omega.{arith}
 use lib.Dec.{T}
@@ -51,13 +51,17 @@ named b NoPlace a = refl
 same-number : (b : List ℕ) (q r : Refusal) → Applies q b → Applies r b → refusalNumber q ≡ refusalNumber r → q ≡ r
 same-number b q r p a e = sym (named b q p) ∙ ap refusalAt e ∙ named b r a
 
-none-above : (b : List ℕ) (q : Refusal) → Applies q b → 14 ≤ refusalNumber q → ⊥
-none-above b q p m = subst (λ (r : Refusal). Applies r b) (sym (named b q p) ∙ List·getD-eq-default numbered Seam m) p
+-- no refusal that applies has the number of one that does not
+other-number : (b : List ℕ) (k : ℕ) → (Applies (refusalAt k) b → ⊥) → (q : Refusal) → Applies q b → refusalNumber q ≡ k → ⊥
+other-number b k h q p e = h (subst (λ (r : Refusal). Applies r b) (sym (named b q p) ∙ ap refusalAt e) p)
 
 one-up : (b : List ℕ) (q : Refusal) → Applies q b → 1 ≤ refusalNumber q
 one-up b q p =
-    let other : refusalNumber q ≡ 0 → ⊥ = λ e. subst (λ (r : Refusal). Applies r b) (sym (named b q p) ∙ ap refusalAt e) p in
+    let other = other-number b 0 (λ a. a) q p in
     omega arith
+
+none-above : (b : List ℕ) (q : Refusal) → Applies q b → 14 ≤ refusalNumber q → ⊥
+none-above b q p m = subst (λ (r : Refusal). Applies r b) (sym (named b q p) ∙ List·getD-eq-default numbered Seam m) p
 
 unfailing : (t : Bool) → ((T t → ⊥) → ⊥) → T t
 unfailing true h = tt
@@ -79,9 +83,7 @@ module _ (format : Format) (b : List ℕ) (size : length b ≡ numbersOf format 
   -- the test numbered k holds, so no refusal numbered k applies
   above : (k : ℕ) → T (testOf format b (refusalAt k)) → (q : Refusal) → Applies q b → k ≤ refusalNumber q → suc k ≤ refusalNumber q
   above k t q p m =
-      let other : refusalNumber q ≡ k → ⊥ =
-      λ e. test-fails format b size q p
-      (subst (λ (r : Refusal). T (testOf format b r)) (ap refusalAt (sym e) ∙ named b q p) t) in
+      let other = other-number b k (λ a. test-fails format b size (refusalAt k) a t) q p in
       omega arith
 
   pass : (k : ℕ) (a : Checked) → T (testOf format b (refusalAt k)) → RightFrom (suc k) b a → RightFrom k b a
@@ -141,13 +143,14 @@ module _ (format : Format) (b : List ℕ) (size : length b ≡ numbersOf format 
       subst (RightFrom 0 b) (sym (in-order format b)) (pass 0 all tt (pass 1 all tt right-bits))
 
 right : (b : List ℕ) → RightFrom 0 b (checkOf b)
-right b =
-    ⊎-elim
-    (λ (p : (format : Format) × (length b ≡ numbersOf format .n)).
-    subst (RightFrom 0 b) (sym (length-fits (p .0) b (fits-as (p .0) (length b) (p .1)))) (right-as (p .0) b (p .1)))
-    (λ (none : (format : Format) → length b ≡ numbersOf format .n → ⊥).
-    subst (RightFrom 0 b) (sym (length-refused b (fits-none (length b) none))) (none, λ q p m. one-up b q p))
-    (fit-or-none (length b))
+right b = go (fit-or-none (length b))
+  where
+    go : ((format : Format) × (length b ≡ numbersOf format .n)) ⊎ ((format : Format) → length b ≡ numbersOf format .n → ⊥)
+        → RightFrom 0 b (checkOf b)
+    go (inl (format, size)) =
+        subst (RightFrom 0 b) (sym (length-fits format b (fits-as format (length b) size))) (right-as format b size)
+    go (inr none) =
+        subst (RightFrom 0 b) (sym (length-refused b (fits-none (length b) none))) (none, λ q p m. one-up b q p)
 
 -- ---- the theorem
 

@@ -2,7 +2,7 @@
 use Prim.Native.Nat.{ℕ}
 use mathlib.Core.Path.{_≡_, refl, subst}
 use mathlib.Core.Bool.{Bool, true, false}
-use mathlib.Core.Logic.{_⊎_, inl, inr, ⊎-elim}
+use mathlib.Core.Logic.{_⊎_, inl, inr}
 use native.Mathlib.Omega.{arith}
 use borrow.Author.Tests.{eqb-true, eqb-false, ne-eqb}
 use lib.Dec.{eqb}
@@ -14,16 +14,16 @@ use Rattle.formats.specs.Numbers.{long, short, numbersOf, fitOf}
 -- the size is that of a format, or of none
 pub fit-or-none : (size : ℕ)
     → ((format : Format) × (size ≡ numbersOf format .n)) ⊎ ((format : Format) → size ≡ numbersOf format .n → ⊥)
-fit-or-none size = go (eqb size 1023) (eqb size 341) refl refl
+fit-or-none size = go (eqb size (long .n)) (eqb size (short .n)) refl refl
   where
-    none : eqb size 1023 ≡ false → eqb size 341 ≡ false → (format : Format) → size ≡ numbersOf format .n → ⊥
-    none e f Long = eqb-false size 1023 e
-    none e f Short = eqb-false size 341 f
+    none : eqb size (long .n) ≡ false → eqb size (short .n) ≡ false → (format : Format) → size ≡ numbersOf format .n → ⊥
+    none e f Long = eqb-false size (long .n) e
+    none e f Short = eqb-false size (short .n) f
 
-    go : (s t : Bool) → eqb size 1023 ≡ s → eqb size 341 ≡ t
+    go : (s t : Bool) → eqb size (long .n) ≡ s → eqb size (short .n) ≡ t
         → ((format : Format) × (size ≡ numbersOf format .n)) ⊎ ((format : Format) → size ≡ numbersOf format .n → ⊥)
-    go true t e f = inl (Long, eqb-true size 1023 e)
-    go false true e f = inl (Short, eqb-true size 341 f)
+    go true t e f = inl (Long, eqb-true size (long .n) e)
+    go false true e f = inl (Short, eqb-true size (short .n) f)
     go false false e f = inr (none e f)
 
 -- no two formats have one length
@@ -40,18 +40,18 @@ fits-as Short size e = rw e
 
 pub fits-none : (size : ℕ) → ((format : Format) → size ≡ numbersOf format .n → ⊥) → fitOf (long .n) (short .n) size ≡ Nothing
 unfolding fitOf
-fits-none size h = rw (ne-eqb size 1023 (h Long), ne-eqb size 341 (h Short))
+fits-none size h = rw (ne-eqb size (long .n) (h Long), ne-eqb size (short .n) (h Short))
 
 -- and the size from the format
 pub size-of : (format : Format) (size : ℕ) → fitOf (long .n) (short .n) size ≡ As format → size ≡ numbersOf format .n
-size-of format size e =
-    ⊎-elim
-    (λ (p : (f : Format) × (size ≡ numbersOf f .n)).
-    let found = fits-as (p .0) size (p .1) in
-    let same : p .0 ≡ format = cc in
-    subst (λ (f : Format). size ≡ numbersOf f .n) same (p .1))
-    (λ (h : (f : Format) → size ≡ numbersOf f .n → ⊥).
-    let none = fits-none size h in
-    let z : _≡_ {A = ℕ} 0 1 = cc in
-    absurd (omega arith))
-    (fit-or-none size)
+size-of format size e = go (fit-or-none size)
+  where
+    go : ((f : Format) × (size ≡ numbersOf f .n)) ⊎ ((f : Format) → size ≡ numbersOf f .n → ⊥) → size ≡ numbersOf format .n
+    go (inl (f, h)) =
+        let found = fits-as f size h in
+        let one : f ≡ format = cc in
+        subst (λ (g : Format). size ≡ numbersOf g .n) one h
+    go (inr none) =
+        let nothing = fits-none size none in
+        let z : _≡_ {A = ℕ} 0 1 = cc in
+        absurd (omega arith)

@@ -18,7 +18,7 @@ use Rattle.telegrams.specs.Fields.{controlOf, allWords, wellFormed}
 use Rattle.conditions.specs.Conditions.{offStep, notRepeating, thinnedOut, proper}
 use Rattle.checker.specs.Applies.{Fails, Applies}
 use Rattle.checker.proofs.Lengths.{one-format}
-use Rattle.checker.proofs.WellFormed.{formed, well-formed}
+use Rattle.checker.proofs.WellFormed.{Formed, formed, well-formed}
 
 -- a refusal that no check gives has the test that always holds
 abbrev pub testOf : Format → List ℕ → Refusal → Bool
@@ -104,11 +104,8 @@ module _ (format : Format) (b : List ℕ) where
         | NoPlace ↦ tt
       ]
 
-  pub tests-proper : length b ≡ numbersOf format .n → ((r : Refusal) → T (testOf format b r)) → T (proper format b)
-  unfolding proper
-  tests-proper size t =
-      let form =
-      well-formed format b
+  tests-formed : length b ≡ numbersOf format .n → ((r : Refusal) → T (testOf format b r)) → Formed format b
+  tests-formed size t =
       record {
         size = size;
         bits = t NotBit;
@@ -116,7 +113,12 @@ module _ (format : Format) (b : List ℕ) where
         turn = t NoTurn;
         has-control = t Control;
         all-words = t NotWord;
-      } in
-      both-of (wellFormed (numbersOf format) b) (both (offStep format b) lastTests) form
+      }
+
+  pub tests-proper : length b ≡ numbersOf format .n → ((r : Refusal) → T (testOf format b r)) → T (proper format b)
+  unfolding proper
+  tests-proper size t =
+      both-of (wellFormed (numbersOf format) b) (both (offStep format b) lastTests)
+      (well-formed format b (tests-formed size t))
       (both-of (offStep format b) lastTests (t OffStep)
       (both-of (notRepeating format b) (thinnedOut format b) (t Repeating) (t Thinned)))

@@ -7,7 +7,6 @@ use Rattle.bits.specs.Bits.{allBits}
 use Rattle.formats.specs.declared.format.Format.{Format}
 use Rattle.formats.specs.declared.format.Fit.{Fit}
 use Rattle.formats.specs.declared.format.Fit.the-variants.{As, Nothing}
-use Rattle.formats.specs.declared.refusal.Refusal.{Refusal}
 use Rattle.formats.specs.declared.refusal.Refusal.the-variants.{Length, NotBit, NotDivisible, NoTurn, Control, NotWord, OffStep, Repeating, Thinned}
 use Rattle.formats.specs.Numbers.{long, short, numbersOf, fitOf}
 use Rattle.formats.specs.Outcome.{orRefuse}
