@@ -2,6 +2,7 @@ pub mod AllBits
 pub mod Both
 pub mod First
 pub mod Flipped
+pub mod Mask
 pub mod Numbers
 pub mod Parts
 pub mod Rest

@@ -34,7 +34,7 @@ pub fn turn(format: Format, remainder: u64) -> Turn
         if turned == remainder {
             return Turn::At(s);
         }
-        turned = division::small_step(turned, 0, divisor, 1024);
+        turned = division::small_step(turned, 0, divisor, 10);
         s += 1;
     }
     Turn::Nothing

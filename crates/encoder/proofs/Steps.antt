@@ -4,18 +4,17 @@ use mathlib.Core.Bool.{Bool, true, false}
 use mathlib.Core.List.{List, _++_}
 use Prim.Native.Nat.{ℕ, _+_, _*_, _/_, _%_, _≤_, _<_}
 use native.Mathlib.Omega.{arith}
-use borrow.Author.Tests.{le-leb, lt-leb, eqb-true}
-use lib.Dec.{eqb}
+use borrow.Author.Tests.{le-leb, lt-leb}
 use lib.ListN.{length, drop}
 use Rattle.bits.specs.Bits.{allBits}
 use Rattle.bits.specs.Search.{First, found, none}
 use Rattle.formats.specs.declared.format.Format.{Format}
-use Rattle.formats.specs.declared.format.Format.the-variants.{Long, Short}
 use Rattle.formats.specs.declared.format.Fit.{Fit}
 use Rattle.formats.specs.declared.format.Fit.the-variants.{As, Nothing}
 use Rattle.formats.specs.declared.refusal.Refusal.the-variants.{Length, NotBit, OutputShort, NoPair}
-use Rattle.formats.specs.Numbers.{long, short, numbersOf, pickFit, fitOf}
+use Rattle.formats.specs.Numbers.{Numbers, long, short, numbersOf, fitOf}
 use Rattle.formats.specs.Outcome.{outcome}
+use Rattle.formats.proofs.Fits
 use Rattle.telegrams.specs.Telegram.{telegramOf}
 use Rattle.encoder.specs.declared.Encoded.the-variants.{Pair, Refused}
 use Rattle.encoder.specs.declared.search.Search.{Search}
@@ -48,28 +47,19 @@ pub searched : (format : Format) (u out : List ℕ) → allBits u ≡ true → n
 unfolding encodeAs
 searched format u out e h = rw (e, le-leb (numbersOf format .n) (length out) h)
 
+abbrev blockBits : Numbers → ℕ
+blockBits F = F .m
+
+apart : blockBits long ≡ blockBits short → ⊥
+apart e = omega arith
+
 -- the format of a block of its length
 pub fits-block : (format : Format) (size : ℕ) → size ≡ numbersOf format .m → fitOf (long .m) (short .m) size ≡ As format
-unfolding fitOf
-fits-block Long size e = rw e
-fits-block Short size e = rw e
+fits-block = Fits.fits-as blockBits apart
 
 -- and the length that picks it
 pub block-size : (format : Format) (size : ℕ) → fitOf (long .m) (short .m) size ≡ As format → size ≡ numbersOf format .m
-unfolding fitOf
-block-size format size e = go (eqb size (long .m)) (eqb size (short .m)) refl refl e
-  where
-    go : (isLong isShort : Bool) → eqb size (long .m) ≡ isLong → eqb size (short .m) ≡ isShort
-        → pickFit isLong (As Long) (pickFit isShort (As Short) Nothing) ≡ As format → size ≡ numbersOf format .m
-    go true isShort p q h =
-        let fit : Long ≡ format = cc in
-        eqb-true size (long .m) p ∙ ap (λ (f : Format). numbersOf f .m) fit
-    go false true p q h =
-        let fit : Short ≡ format = cc in
-        eqb-true size (short .m) q ∙ ap (λ (f : Format). numbersOf f .m) fit
-    go false false p q h =
-        let z : _≡_ {A = ℕ} 0 1 = cc in
-        absurd (omega arith)
+block-size = Fits.size-of blockBits apart
 
 -- ---- what is written, by the search's answer
 

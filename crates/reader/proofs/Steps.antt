@@ -3,16 +3,17 @@ use mathlib.Core.Path.{_≡_, ap, _∙_}
 use mathlib.Core.Bool.{Bool, true, false}
 use mathlib.Core.List.{List, _++_}
 use Prim.Native.Nat.{ℕ, _≤_, _<_}
+use native.Mathlib.Omega.{arith}
 use borrow.Author.Tests.{le-leb, lt-leb}
 use lib.ListN.{length, take, drop}
 use Rattle.bits.specs.Bits.{allBits}
 use Rattle.formats.specs.declared.format.Format.{Format}
-use Rattle.formats.specs.declared.format.Format.the-variants.{Long, Short}
 use Rattle.formats.specs.declared.format.Fit.{Fit}
 use Rattle.formats.specs.declared.format.Fit.the-variants.{As, Nothing}
 use Rattle.formats.specs.declared.refusal.Refusal.the-variants.{Length, NotBit, OutputShort, Seam, NotDivisible, NoTurn, Control, NotWord}
 use Rattle.formats.specs.Numbers.{long, short, numbersOf, windowBits, fitOf, fOf}
 use Rattle.formats.specs.Outcome.{outcome}
+use Rattle.formats.proofs.Fits
 use Rattle.cyclic.specs.declared.Turn.{Turn}
 use Rattle.cyclic.specs.declared.Turn.the-variants.{At, Nothing as NoneFits}
 use Rattle.cyclic.specs.Remainder.{remainder}
@@ -34,11 +35,16 @@ pub length-fits : (format : Format) (w out : List ℕ) → fitOf (windowBits lon
 unfolding readOf
 length-fits format w out e = ap (λ (x : Fit). readFit x w out) e
 
+apart : windowBits long ≡ windowBits short → ⊥
+apart e = omega arith
+
 -- the format of a window of its length
 pub fits-window : (format : Format) (size : ℕ) → size ≡ windowBits (numbersOf format) → fitOf (windowBits long) (windowBits short) size ≡ As format
-unfolding fitOf
-fits-window Long size e = rw e
-fits-window Short size e = rw e
+fits-window = Fits.fits-as windowBits apart
+
+-- and the length that picks it
+pub window-size : (format : Format) (size : ℕ) → fitOf (windowBits long) (windowBits short) size ≡ As format → size ≡ windowBits (numbersOf format)
+window-size = Fits.size-of windowBits apart
 
 module _ (format : Format) (w out : List ℕ) where
   -- a byte other than 0 or 1

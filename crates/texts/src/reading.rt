@@ -42,7 +42,8 @@ pub fn take_byte(byte: u8, bits: &mut [u8], count: usize) -> Progress
         Character::Bit(bit) => {
             if count < bits.len() {
                 bits[count] = bit;
-                Progress::Count(count + 1)
+                let held = count + 1;
+                Progress::Count(held)
             } else {
                 Progress::Bad
             }

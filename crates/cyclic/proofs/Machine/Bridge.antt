@@ -18,7 +18,7 @@ use Rattle.formats.specs.Polynomial.{sum}
 use Rattle.cyclic.specs.Machine.{stepV, reducedV}
 use Rattle.cyclic.specs.Remainder.{step, remainderFrom}
 use Rattle.cyclic.proofs.Registers.{bits-step, length-step}
-use Rattle.cyclic.proofs.Machine.Sums.{allBits-sum, length-sum, value-sum}
+use Rattle.cyclic.proofs.Machine.Sums.{value-sum}
 
 -- the register after a run of bits, as a number
 unfoldable pub runV : ℕ → ℕ → ℕ → List ℕ → ℕ

@@ -1,10 +1,10 @@
 -- The tests on remainders as tests on numbers: divisible by g, and with the remainder by f of turn 0. Assumes nothing.
-use mathlib.Core.Path.{_≡_, refl, sym, ap, _∙_}
+use mathlib.Core.Path.{_≡_, sym, ap, _∙_}
 use mathlib.Core.Bool.{Bool}
 use mathlib.Core.List.{List}
 use Prim.Native.Nat.{ℕ}
 use lib.Dec.{T, eqb, eqb→eq, eqb-refl}
-use lib.ListN.{length, replicate}
+use lib.ListN.{replicate}
 use Rattle.bits.specs.Bits.{allBits, numberOf}
 use Rattle.bits.proofs.Tests.{tests-agree}
 use Rattle.formats.specs.declared.format.Format.{Format}

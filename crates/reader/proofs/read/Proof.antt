@@ -7,8 +7,7 @@ use Rattle.bits.specs.Bits.{allBits}
 use Rattle.bits.proofs.Tests.{holds}
 use Rattle.formats.specs.declared.format.Fit.the-variants.{As}
 use Rattle.formats.specs.Numbers.{long, short, windowBits, fitOf}
-use Rattle.reader.proofs.Steps.{length-refused, length-fits, bits-refused}
-use Rattle.reader.proofs.Parts.Answers.{fit-length}
+use Rattle.reader.proofs.Steps.{length-refused, length-fits, bits-refused, window-size}
 use Rattle.reader.proofs.read.Statement.{statement}
 use Rattle.reader.proofs.read.Tie as tie
 
@@ -35,7 +34,8 @@ returns c =
 
 -- the format that the length picks
 picked : (c : tie.After-known-told) →
-    fitOf (windowBits long) (windowBits short) (length (c .before .before .before .before .before .before .args .window .now)) ≡ As (c .before .format .given .0 .0)
+    let w = c .before .before .before .before .before .before .args .window .now in
+    fitOf (windowBits long) (windowBits short) (length w) ≡ As (c .before .format .given .0 .0)
 picked c = sym (c .before .before .before .of-length .ensures) ∙ c .before .format .given .1
 
 all-bits-requires : tie.Need-all-bits-requires
@@ -56,7 +56,7 @@ read-bits-requires c κs =
     let told = passed .before .before in
     let a = told .before .before .before .before .before .before .args in (
       holds (allBits (a .window .now)) (sym (passed .before .all-bits .ensures) ∙ not-false _ (passed .if1 .left)),
-      fit-length (told .before .format .given .0 .0) (length (a .window .now)) (picked told),
+      window-size (told .before .format .given .0 .0) (length (a .window .now)) (picked told),
     )
 
 same-length : tie.Need-same-length

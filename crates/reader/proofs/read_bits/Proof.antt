@@ -59,8 +59,11 @@ telegram-bits-requires c κs = search needs
 
 -- the first n bits
 first-size : (c : tie.After-telegram-bits) →
-    c .telegram-bits .result ≡ length (take (c .telegram-bits .result) (c .before .before .before .before .before .before .before .args .window .now))
-first-size c = sym (length-take-le (c .telegram-bits .result) (c .before .before .before .before .before .before .before .args .window .now) (omega arith))
+    let w = c .before .before .before .before .before .before .before .args .window .now in
+    c .telegram-bits .result ≡ length (take (c .telegram-bits .result) w)
+first-size c =
+    let w = c .before .before .before .before .before .before .before .args .window .now in
+    sym (length-take-le (c .telegram-bits .result) w (omega arith))
 
 slice-aggregate-divisible : tie.Need-slice-aggregate-divisible
 slice-aggregate-divisible c = first-size (c .before)
@@ -101,20 +104,21 @@ turn-requires : tie.Need-turn-requires
 turn-requires c κs = search needs
 
 -- the turn that the remainder by f belongs to
-module _ (c : tie.After-turn) where
-  turn-is : let a = c .before .before .before .before .before .before .before .before .before .before .before .before .before .args in
-      turnOf (numbersOf (a .format)) (remainder (fOf (numbersOf (a .format))) (take (numbersOf (a .format) .n) (a .window .now))) ≡ c .turn .result
-  turn-is =
-      let rest = c .before in
-      let count = rest .before .before .before .before .before in
-      let start = count .before .before .before .before .before .before .before in
-      let a = start .args in
-      let F = numbersOf (a .format) in
-      let n = count .telegram-bits .result in
-      let v = take n (a .window .now) in
-      ap (λ (i : ℕ). turnOf F (remainder (fOf F) (take i (a .window .now)))) (sym (count .telegram-bits .ensures))
-      ∙ ap (turnOf F) (sym (remainder-list (f-monic (a .format)) v (allBits-take n (a .window .now) (start .pre .0)) (rest .remainder-f .ensures .0)))
-      ∙ sym (c .turn .ensures)
+turn-is : (c : tie.After-turn) →
+    let a = c .before .before .before .before .before .before .before .before .before .before .before .before .before .args in
+    let F = numbersOf (a .format) in
+    turnOf F (remainder (fOf F) (take (F .n) (a .window .now))) ≡ c .turn .result
+turn-is c =
+    let rest = c .before in
+    let count = rest .before .before .before .before .before in
+    let start = count .before .before .before .before .before .before .before in
+    let a = start .args in
+    let F = numbersOf (a .format) in
+    let n = count .telegram-bits .result in
+    let v = take n (a .window .now) in
+    ap (λ (i : ℕ). turnOf F (remainder (fOf F) (take i (a .window .now)))) (sym (count .telegram-bits .ensures))
+    ∙ ap (turnOf F) (sym (remainder-list (f-monic (a .format)) v (allBits-take n (a .window .now) (start .pre .0)) (rest .remainder-f .ensures .0)))
+    ∙ sym (c .turn .ensures)
 
 enum-known-t : tie.Need-enum-known-t
 enum-known-t c = search needs

@@ -1,25 +1,18 @@
 -- `cyclic::division::small_run` meets its contract. The loop's invariant: the run over all bits is the run over the rest. Assumes nothing.
 use borrow.Author.Needs.{needs}
-use mathlib.Core.Path.{_≡_, ap, _∙_}
-use Prim.Native.Nat.{ℕ, _-_, _*_, _%_, _^_, _<_, _≤_}
+use Prim.Native.Nat.{_-_}
 use native.Mathlib.Omega.{arith}
-use lib.ListN.{length, getD}
-use lib.Pow.{pow-mono}
+use lib.ListN.{length}
 use Rattle.bits.proofs.AllBits.{allBits-getD}
-use Rattle.formats.proofs.TwoWords.{shifted-one}
-use Rattle.cyclic.specs.Machine.{stepV}
 use Rattle.cyclic.proofs.Machine.Running.{Running, running-none, running-more, running-done}
 use Rattle.cyclic.proofs.division.small_run.Statement.{statement}
 use Rattle.cyclic.proofs.division.small_run.Tie as tie
 
 abbrev Inv-loop : tie.InvT-loop
-Inv-loop divisor degree start bits top r₀ i₀ r i = Running divisor degree start bits r i
+Inv-loop divisor degree start bits r₀ i₀ r i = Running divisor degree start bits r i
 
 abbrev μ-loop : tie.MeasureT-loop
-μ-loop divisor degree start bits top r₀ i₀ r i = length bits - i
-
-shl-top : tie.Need-shl-top Inv-loop μ-loop
-shl-top c = search needs
+μ-loop divisor degree start bits r₀ i₀ r i = length bits - i
 
 loop-holds : tie.Need-loop-holds Inv-loop μ-loop
 loop-holds c = running-none (c .before .pre .1)
@@ -31,11 +24,7 @@ small-step-requires : tie.Need-small-step-requires Inv-loop μ-loop
 small-step-requires c κs =
     let l = c .before .before in
     let s = l .before .before in
-    let k = s .args .degree in
-    let e : 1 * 2 ^ k % 2 ^ 64 ≡ 2 ^ k = shifted-one k (omega arith) in
-    let below : l .loop .r < 1 * 2 ^ k % 2 ^ 64 = rw e (l .loop .inv .fits) in
-    let small : 1 * 2 ^ k % 2 ^ 64 ≤ 2 ^ 62 = rw e (pow-mono {i = k} {j = 62} (omega arith)) in
-    (below, (small, allBits-getD (s .args .bits .now) (l .loop .i) (s .pre .1 .bits)))
+    (s .pre .0, (l .loop .inv .fits, allBits-getD (s .args .bits .now) (l .loop .i) (s .pre .1 .bits)))
 
 add-i : tie.Need-add-i Inv-loop μ-loop
 add-i c = search needs
@@ -46,19 +35,12 @@ loop-less c = search needs
 loop-again : tie.Need-loop-again Inv-loop μ-loop
 loop-again c =
     let l = c .before .before .before in
-    let s = l .before .before in
-    let a = s .args in
-    let more =
-    c .small-step .ensures
-    ∙ ap (λ (p : ℕ). stepV (a .divisor) p (l .loop .r) (getD (a .bits .now) (l .loop .i) 0)) (shifted-one (a .degree) (omega arith))
-    in
-    running-more (s .pre .1) (omega arith) more (l .loop .inv)
+    running-more (l .before .before .pre .1) (omega arith) (c .small-step .ensures) (l .loop .inv)
 
 returns : tie.Need-returns Inv-loop μ-loop
 returns c =
-    let s = c .before .before .before in
     let inv = c .before .loop .inv in
-    (running-done (s .pre .1) (omega arith) inv, inv .fits)
+    (running-done (c .before .before .before .pre .1) (omega arith) inv, inv .fits)
 
 pub small-run-spec : {M : Type 1} → statement M
 small-run-spec =
@@ -66,7 +48,6 @@ small-run-spec =
     (tie.spec
     Inv-loop
     μ-loop
-    shl-top
     loop-holds
     shared-slice-read-small-step
     small-step-requires

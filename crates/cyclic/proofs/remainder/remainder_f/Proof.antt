@@ -13,7 +13,7 @@ small-run-requires : tie.Need-small-run-requires
 small-run-requires c κs =
     let s = c .before .before in
     let low = f-low (s .args .format) (c .f .result) (c .f .ensures) in
-    (lit< tt, record { degree = divisor-degree (f-monic (s .args .format)) low; fits = lit< tt; bits = s .pre })
+    ((lit< tt, lit< tt), record { degree = divisor-degree (f-monic (s .args .format)) low; fits = lit< tt; bits = s .pre })
 
 returns : tie.Need-returns
 returns c =

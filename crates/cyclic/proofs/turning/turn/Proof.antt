@@ -3,7 +3,7 @@
 use borrow.Author.Needs.{needs}
 use Prim.Native.Nat.{_-_, _≤_}
 use native.Mathlib.Omega.{arith}
-use lib.Dec.{lit<, lit≤}
+use lib.Dec.{lit<}
 use Rattle.formats.specs.declared.format.Format.{Format}
 use Rattle.cyclic.proofs.Machine.Divisors.{f-low}
 use Rattle.cyclic.proofs.Machine.Turns.{Serves, Turning, turn-fits, turning-start, turning-more, turning-found, turning-over}
@@ -49,7 +49,7 @@ small-step-requires : tie.Need-small-step-requires Inv-loop μ-loop
 small-step-requires c κs =
     let l = c .before .before in
     let x = l .before .before .before .before .args .format in
-    (turn-fits x (l .loop .s) (l .loop .inv .1 x (serves (l .before)) .register), (lit≤ tt, lit< tt))
+    ((lit< tt, lit< tt), (turn-fits x (l .loop .s) (l .loop .inv .1 x (serves (l .before)) .register), lit< tt))
 
 add-s : tie.Need-add-s Inv-loop μ-loop
 add-s c = omega arith

@@ -67,7 +67,8 @@ returns-2 c =
     let words = call .before .before in
     let a = words .before .before .before .before .before .args in
     let refusal = told .answer .given .0 .0 in
-    let known = refused-words (allWords (words .words .result) (a .telegram .now)) refusal (sym (told .answer .given .1) ∙ call .unshape .ensures .0) in
+    let known =
+    refused-words (allWords (words .words .result) (a .telegram .now)) refusal (sym (told .answer .given .1) ∙ call .unshape .ensures .0) in
     word-refused (a .format) (a .t) (a .flipped) (a .telegram .now) (a .output .now) (controlled (words .before))
     (ap (λ (k : ℕ). allWords k (a .telegram .now)) (sym (words .words .ensures)) ∙ known .0)
     ∙ ap (λ (x : Refusal). outcome (Refused x) (a .output .now)) (sym (known .1))
@@ -106,7 +107,9 @@ array-share-prefix-unshaped c =
 
 slice-aggregate-write-user-bits : tie.Need-slice-aggregate-write-user-bits
 slice-aggregate-write-user-bits c =
-    sym (length-take-le (c .before .user-bits .result) (c .before .before .before .before .before .before .unshape .last .1 .1 .0) (array-share-prefix-unshaped (c .before)))
+    let bits = c .before in
+    let u = bits .before .before .before .before .before .unshape .last .1 .1 .0 in
+    sym (length-take-le (bits .user-bits .result) u (array-share-prefix-unshaped bits))
 
 write-user-bits-requires : tie.Need-write-user-bits-requires
 write-user-bits-requires c κs =
@@ -122,8 +125,10 @@ write-user-bits-requires c κs =
     let u = call .unshape .last .1 .1 .0 in
     let size = length-unshaped (blocks F) b in
     rw (data-blocks F S b u (drop (10 * words .words .result) zeros) (words .words .result) (bits .user-bits .result)
-    (words .words .ensures) (bits .user-bits .ensures) (filled told))
-    (bits-unshaped (blocks F) b, ((omega (arith, size, S), omega (arith, size, S, block-fits (a .format))), omega (arith, size, S, start .pre .1 .1)))
+    (words .words .ensures) (bits .user-bits .ensures) (filled told)) (
+      bits-unshaped (blocks F) b,
+      ((omega (arith, size, S), omega (arith, size, S, block-fits (a .format))), omega (arith, size, S, start .pre .1 .1)),
+    )
 
 same-length : tie.Need-same-length
 same-length c = search needs
@@ -143,11 +148,14 @@ returns-3 c =
     let u = call .unshape .last .1 .1 .0 in
     let B = bits .before .scrambling-bits .result in
     let B-is = bits .before .scrambling-bits .ensures in
-    let written = user-bits F (sizesOf (a .format)) b u (drop (10 * words .words .result) zeros) (words .words .result) (bits .user-bits .result) (words .words .ensures) (bits .user-bits .ensures) (filled told)
+    let written =
+    user-bits F (sizesOf (a .format)) b u (drop (10 * words .words .result) zeros) (words .words .result) (bits .user-bits .result)
+    (words .words .ensures) (bits .user-bits .ensures) (filled told)
     B B-is (a .output .now) (wrote .write-user-bits .last .1 .1 .0) (wrote .write-user-bits .ensures) in
     accepted (a .format) (a .t) (a .flipped) b (a .output .now) (controlled (words .before))
     (ap (λ (k : ℕ). allWords k b) (sym (words .words .ensures)) ∙ worded told)
-    ∙ ap₂ (λ (x : ℕ) (o : List ℕ). outcome (Read (record { format = a .format; scrambling = x; turn = a .t; flipped = a .flipped })) o) (sym B-is) (sym written)
+    ∙ ap₂ (λ (x : ℕ) (o : List ℕ). outcome (Read (record { format = a .format; scrambling = x; turn = a .t; flipped = a .flipped })) o)
+    (sym B-is) (sym written)
 
 pub read-telegram-spec : {M : Type 1} → statement M
 read-telegram-spec =

@@ -81,9 +81,11 @@ returns c =
     let n = bits .telegram-bits .result in
     let n-is = bits .telegram-bits .ensures in
     let s = call .turn-back .last .1 .1 .0 in
-    let one = is-flipped F (a .t) (a .window .now) (start .pre .1 .0) n n-is (a .out .now) s (call .turn-back .ensures) (b109 start) (test .if1 .taken) in (
+    let w = a .window .now in
+    let turned = call .turn-back .ensures in
+    let one = is-flipped F (a .t) w (start .pre .1 .0) n n-is (a .out .now) s turned (b109 start) (test .if1 .taken) in (
       sym one,
-      flipped-stands F (a .t) (a .window .now) (start .pre .1 .0) n n-is (a .out .now) s (call .turn-back .ensures) (flipped .flip .last .0) (flipped .flip .ensures) one,
+      flipped-stands F (a .t) w (start .pre .1 .0) n n-is (a .out .now) s turned (flipped .flip .last .0) (flipped .flip .ensures) one,
     )
 
 same-length-2 : tie.Need-same-length-2
@@ -99,9 +101,11 @@ returns-2 c =
     let n = bits .telegram-bits .result in
     let n-is = bits .telegram-bits .ensures in
     let s = call .turn-back .last .1 .1 .0 in
-    let zero = is-upright F (a .t) (a .window .now) (start .pre .1 .0) n n-is (a .out .now) s (call .turn-back .ensures) (b109 start) (c .if1 .left) in (
-      sym zero,
-      upright-stands F (a .t) (a .window .now) (start .pre .1 .0) n n-is (a .out .now) s (call .turn-back .ensures) zero,
+    let w = a .window .now in
+    let turned = call .turn-back .ensures in
+    let other = is-upright F (a .t) w (start .pre .1 .0) n n-is (a .out .now) s turned (b109 start) (c .if1 .left) in (
+      sym other,
+      upright-stands F (a .t) w (start .pre .1 .0) n n-is (a .out .now) s turned other,
     )
 
 pub telegram-in-spec : {M : Type 1} → statement M

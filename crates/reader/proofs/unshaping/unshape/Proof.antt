@@ -49,16 +49,18 @@ cast-look-up c =
 look-up-requires : tie.Need-look-up-requires Inv-loop μ-loop
 look-up-requires c κs = search needs
 
--- the next word, and what is found of it
-module _ (c : tie.After-look-up Inv-loop μ-loop) where
-  found : lookupOf (numberOf (take 11 (drop (11 * c .before .before .before .loop .j) (c .before .before .before .before .before .before .args .telegram .now))))
-      ≡ c .look-up .result
-  found = sym (c .look-up .ensures ∙ ap lookupOf (c .before .number .ensures))
+-- what was found says what the next word is
+found : (c : tie.After-look-up Inv-loop μ-loop) →
+    let l = c .before .before .before in
+    lookupOf (numberOf (take 11 (drop (11 * l .loop .j) (l .before .before .before .args .telegram .now)))) ≡ c .look-up .result
+found c = sym (c .look-up .ensures ∙ ap lookupOf (c .before .number .ensures))
 
-  next : isWord (take 11 (drop (11 * c .before .before .before .loop .j) (c .before .before .before .before .before .before .args .telegram .now)))
-      ≡ isNumber (c .look-up .result)
-  unfolding isWord
-  next = ap isNumber found
+-- and whether it is in the table
+next : (c : tie.After-look-up Inv-loop μ-loop) →
+    let l = c .before .before .before in
+    isWord (take 11 (drop (11 * l .loop .j) (l .before .before .before .args .telegram .now))) ≡ isNumber (c .look-up .result)
+unfolding isWord
+next c = ap isNumber (found c)
 
 enum-known-i : tie.Need-enum-known-i Inv-loop μ-loop
 enum-known-i c = search needs
@@ -122,11 +124,13 @@ loop-again c =
     let number : i ≡ numberIn (lookupOf (numberOf (take 11 (drop (11 * j) b)))) = sym (ap numberIn (found look ∙ word .i .given .1)) in
     let place : 10 * j + 10 ≡ 10 * (j + 1) = omega arith in
     let written =
-    front-more (unshaped j b) (bitsOf 10 i) old (l .loop .out) (called .write-number .last .0) (10 * j) 10 (length-unshaped j b) (l .loop .inv .3) (called .write-number .ensures) in (
+    front-more (unshaped j b) (bitsOf 10 i) old (l .loop .out) (called .write-number .last .0) (10 * j) 10 (length-unshaped j b)
+    (l .loop .inv .3) (called .write-number .ensures) in (
       omega arith,
       omega arith,
       l .loop .inv .2 ∙ words-more k j b (omega arith) ∙ ap (λ (t : Bool). both t others) (next look ∙ ap isNumber (word .i .given .1)),
-      written ∙ ap₂ (λ (front : List ℕ) (p : ℕ). front ++ drop p old) (ap (λ (x : ℕ). unshaped j b ++ bitsOf 10 x) number ∙ sym (unshaped-more j b)) place,
+      written
+          ∙ ap₂ (λ (front : List ℕ) (p : ℕ). front ++ drop p old) (ap (λ (x : ℕ). unshaped j b ++ bitsOf 10 x) number ∙ sym (unshaped-more j b)) place,
     )
 
 same-length-2 : tie.Need-same-length-2 Inv-loop μ-loop

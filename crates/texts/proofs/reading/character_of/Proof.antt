@@ -1,5 +1,5 @@
 -- `texts::reading::character_of` meets its contract. Assumes nothing.
-use mathlib.Core.Path.{_≡_}
+use mathlib.Core.Path.{sym, ap}
 use mathlib.Core.Logic.{⊎-elim, inl, inr}
 use borrow.Author.Tests.{ne-eqb}
 use Rattle.texts.specs.Reading.{characterOf}
@@ -16,8 +16,7 @@ returns-2 c = simp (c .match .keys2)
 
 returns-3 : tie.Need-returns-3
 unfolding characterOf
-returns-3 c =
-    ⊎-elim (λ (e : c .before .args .byte ≡ 10). simp e) (λ (e : c .before .args .byte ≡ 13). simp e) (c .match .keys3)
+returns-3 c = ⊎-elim (λ e. sym (ap characterOf e)) (λ e. sym (ap characterOf e)) (c .match .keys3)
 
 returns-4 : tie.Need-returns-4
 unfolding characterOf

@@ -45,8 +45,8 @@ enum-known-character c = search needs
 slice-write-bits : tie.Need-slice-write-bits
 slice-write-bits c = search needs
 
-add-t11 : tie.Need-add-t11
-add-t11 c = search needs
+add-held : tie.Need-add-held
+add-held c = search needs
 
 enum-told : tie.Need-enum-told
 enum-told c = search needs
@@ -62,7 +62,7 @@ returns c =
     let a = c .before .before .before .before .before .before .args in
     let known-bit = c .before .before .character .given in
     known (a .bits .now) (a .count) (a .byte) (sym (c .before .before .before .before .character-of .ensures) ∙ known-bit .1)
-    (room (a .bits .now) (a .count) (known-bit .0 .0) (c .if1 .taken))
+    (room (a .bits .now) (a .count) (known-bit .0 .0) (omega arith))
 
 returns-2 : tie.Need-returns-2
 returns-2 c =
@@ -70,7 +70,7 @@ returns-2 c =
     let a = s .args in
     let known-bit = c .before .before .character .given in
     known (a .bits .now) (a .count) (a .byte) (sym (c .before .before .before .before .character-of .ensures) ∙ known-bit .1)
-    (full (a .bits .now) (a .count) (known-bit .0 .0) (s .pre) (c .if1 .left))
+    (full (a .bits .now) (a .count) (known-bit .0 .0) (s .pre) (omega arith))
 
 returns-3 : tie.Need-returns-3
 returns-3 c =
@@ -93,7 +93,7 @@ take-byte-spec =
     character-of-requires
     enum-known-character
     slice-write-bits
-    add-t11
+    add-held
     enum-told
     enum-told-2
     same-length
