@@ -1,0 +1,3 @@
+pub mod Captures
+pub mod Attempts
+pub mod FirstPlace

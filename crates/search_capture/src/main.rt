@@ -1,0 +1,39 @@
+// Reads a capture from standard input, characters 0 and 1, and writes the first place at which a window is read
+// (document 01, "Bench sheet").
+use captures::Capture;
+use formats::format;
+use texts::front;
+use texts::input;
+use texts::output;
+use texts::reading::Progress;
+
+// Lines three and four. The user bits are read again from the stretch.
+fn report(capture: &[u8]) {
+    let answer = captures::search(capture);
+    match answer {
+        Capture::Found { place, reading } => {
+            let format = reading.format;
+            output::print_format(format);
+            output::print_field(b"place", place as u64);
+            output::print_field(b"turn", reading.turn as u64);
+            output::print_field(b"sb", reading.scrambling as u64);
+            output::print_flipped(reading.flipped);
+            output::end_line();
+            let mut user_bits = [0u8; 830];
+            reader::read(captures::stretch(capture), &mut user_bits);
+            output::print_bits(front(&user_bits, format::user_bits(format)));
+        }
+        Capture::Refused(_) => output::print_none(),
+    }
+}
+
+fn main() {
+    output::print_header(b"capture");
+    let mut capture = [0u8; captures::LIMIT];
+    let Progress::Count(count) = input::read_text(&mut capture) else {
+        output::print_bad();
+        return;
+    };
+    output::print_count(count);
+    report(front(&capture, count));
+}
