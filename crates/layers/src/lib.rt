@@ -13,7 +13,11 @@ ghost use Rattle.scrambling.specs.Scrambling.{scrambled, descrambled};
 ghost use Rattle.scrambling.specs.Sum.{withSum, withoutSum};
 ghost use Rattle.cyclic.specs.Remainder.{remainder};
 ghost use Rattle.cyclic.specs.Check.{checkBits, turnOf};
+ghost use Rattle.conditions.specs.Conditions.{offStep, notRepeating, thinnedOut};
 ghost use Rattle.layers.specs.Crossing.{formatOf, numbers, numberOr1024, turnOr, twoWords};
+use conditions::off_step;
+use conditions::repeating;
+use conditions::thinned;
 use cyclic::Turn;
 use cyclic::check_bits;
 use cyclic::remainder;
@@ -247,4 +251,34 @@ pub extern "C" fn balise_layers_turn(long: bool, remainder: u64) -> usize
         Turn::At(t) => t,
         Turn::Nothing => format::telegram_bits(format),
     }
+}
+
+// Whether condition 2 holds of a telegram's bits.
+#[no_mangle]
+pub extern "C" fn balise_layers_off_step(long: bool, telegram: &[u8]) -> bool
+    requires { ⌜ T (allBits (now telegram)) × (length (now telegram) ≡ numbers long .n) ⌝ }
+    ensures { λ r. ⌜ r ≡ offStep (formatOf long) (now (telegram .entry)) ⌝ }
+{
+    let format = format_of(long);
+    off_step::off_step(format, telegram)
+}
+
+// Whether condition 3 holds of a telegram's bits.
+#[no_mangle]
+pub extern "C" fn balise_layers_not_repeating(long: bool, telegram: &[u8]) -> bool
+    requires { ⌜ T (allBits (now telegram)) × (length (now telegram) ≡ numbers long .n) ⌝ }
+    ensures { λ r. ⌜ r ≡ notRepeating (formatOf long) (now (telegram .entry)) ⌝ }
+{
+    let format = format_of(long);
+    repeating::not_repeating(format, telegram)
+}
+
+// Whether condition 4 holds of a telegram's bits.
+#[no_mangle]
+pub extern "C" fn balise_layers_thinned_out(long: bool, telegram: &[u8]) -> bool
+    requires { ⌜ T (allBits (now telegram)) × (length (now telegram) ≡ numbers long .n) ⌝ }
+    ensures { λ r. ⌜ r ≡ thinnedOut (formatOf long) (now (telegram .entry)) ⌝ }
+{
+    let format = format_of(long);
+    thinned::thinned_out(format, telegram)
 }

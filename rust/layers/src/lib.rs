@@ -56,6 +56,18 @@ mod exported {
             out_len: usize,
         );
         pub fn balise_layers_turn(long: bool, remainder: u64) -> usize;
+        pub fn balise_layers_off_step(long: bool, telegram: *const u8, telegram_len: usize)
+            -> bool;
+        pub fn balise_layers_not_repeating(
+            long: bool,
+            telegram: *const u8,
+            telegram_len: usize,
+        ) -> bool;
+        pub fn balise_layers_thinned_out(
+            long: bool,
+            telegram: *const u8,
+            telegram_len: usize,
+        ) -> bool;
     }
 }
 
@@ -267,4 +279,31 @@ pub fn turn(long: bool, remainder: u64) -> usize {
     assert!(remainder < 1024, "no remainder by f");
     // SAFETY: the test is the contract's.
     unsafe { exported::balise_layers_turn(long, remainder) }
+}
+
+/// What the contracts of the three conditions ask of a telegram.
+fn require_telegram(long: bool, telegram: &[u8]) {
+    require_bits(telegram);
+    assert_eq!(telegram.len(), telegram_bits(long));
+}
+
+/// Whether condition 2 holds.
+pub fn off_step(long: bool, telegram: &[u8]) -> bool {
+    require_telegram(long, telegram);
+    // SAFETY: as above.
+    unsafe { exported::balise_layers_off_step(long, telegram.as_ptr(), telegram.len()) }
+}
+
+/// Whether condition 3 holds.
+pub fn not_repeating(long: bool, telegram: &[u8]) -> bool {
+    require_telegram(long, telegram);
+    // SAFETY: as above.
+    unsafe { exported::balise_layers_not_repeating(long, telegram.as_ptr(), telegram.len()) }
+}
+
+/// Whether condition 4 holds.
+pub fn thinned_out(long: bool, telegram: &[u8]) -> bool {
+    require_telegram(long, telegram);
+    // SAFETY: as above.
+    unsafe { exported::balise_layers_thinned_out(long, telegram.as_ptr(), telegram.len()) }
 }

@@ -1,0 +1,119 @@
+//! Conditions 2, 3 and 4 on made bits: runs of table words at and over each
+//! limit, and bits that repeat after a third of the telegram.
+
+use second::conditions::{condition_2, condition_3, condition_4, off_step_limit, THINNED_RUN};
+use second::format::{Format, FORMATS};
+use second::random::Random;
+use second::{bits, words};
+
+fn long(format: Format) -> bool {
+    format == Format::Long
+}
+
+/// `run` table words in a row from place p on, in a ring of zeros, whose words
+/// are barred wherever they are cut.
+fn ring_with_run(random: &mut Random, format: Format, p: usize, run: usize) -> Vec<u8> {
+    let n = format.telegram_bits();
+    let mut ring = vec![0; n];
+    for j in 0..run {
+        let word = words::word(random.below(1024) as u16);
+        for (i, bit) in bits::bits_of(word.into(), 11).into_iter().enumerate() {
+            ring[(p + 11 * j + i) % n] = bit;
+        }
+    }
+    ring
+}
+
+/// The telegram whose thinning by 2^k is v: b(j * 2^k) = v(j).
+fn thickened(v: &[u8], k: u32) -> Vec<u8> {
+    let n = v.len();
+    let mut telegram = vec![0; n];
+    for j in 0..n {
+        telegram[n - 1 - (j << k) % n] = v[n - 1 - j];
+    }
+    telegram
+}
+
+#[test]
+fn condition_2_agrees_at_its_limits() {
+    let mut random = Random::new(21);
+    for format in FORMATS {
+        let (mut within, mut over) = (0, 0);
+        for p in 0..=11 {
+            for run in 1..=12 {
+                for _ in 0..10 {
+                    let place = p + 11 * random.below(format.words() - 13);
+                    let telegram = ring_with_run(&mut random, format, place, run);
+                    let expected = condition_2(&telegram, format);
+                    assert_eq!(layers::off_step(long(format), &telegram), expected);
+                    let limit = off_step_limit(p.clamp(1, 10), format);
+                    within += usize::from((1..=10).contains(&p) && run == limit && expected);
+                    over += usize::from((1..=10).contains(&p) && run == limit + 1 && !expected);
+                }
+            }
+        }
+        assert!(within > 0 && over >= 100, "{within} {over}");
+    }
+}
+
+#[test]
+fn condition_2_counts_on_the_strip() {
+    let mut random = Random::new(22);
+    for format in FORMATS {
+        for p in 1..=10 {
+            for before in 1..=3 {
+                // a run that crosses from b0 to b(n-1)
+                let place = format.telegram_bits() + p - 11 * before;
+                let telegram = ring_with_run(&mut random, format, place, 5);
+                let expected = condition_2(&telegram, format);
+                assert_eq!(layers::off_step(long(format), &telegram), expected);
+            }
+        }
+    }
+}
+
+#[test]
+fn condition_4_agrees_at_its_limit() {
+    let mut random = Random::new(23);
+    for format in FORMATS {
+        let (mut within, mut over) = (0, 0);
+        for k in 1..=4 {
+            for alignment in 0..11 {
+                for run in [THINNED_RUN - 1, THINNED_RUN, THINNED_RUN + 1] {
+                    let place = alignment + 11 * random.below(format.words());
+                    let v = ring_with_run(&mut random, format, place, run);
+                    let telegram = thickened(&v, k);
+                    let expected = condition_4(&telegram);
+                    assert_eq!(layers::thinned_out(long(format), &telegram), expected);
+                    within += usize::from(run == THINNED_RUN && expected);
+                    over += usize::from(run > THINNED_RUN && !expected);
+                }
+            }
+        }
+        assert!(within > 0 && over == 44, "{within} {over}");
+    }
+}
+
+#[test]
+fn condition_3_agrees_on_bits_that_repeat() {
+    let mut random = Random::new(24);
+    let n = Format::Long.telegram_bits();
+    let (mut holds, mut fails) = (0, 0);
+    for round in 0..600 {
+        let mut telegram = random.bits(n);
+        let (from, shift) = (random.below(n), 338 + random.below(7));
+        for j in 0..8 + random.below(36) {
+            telegram[(from + shift + j) % n] = telegram[(from + j) % n];
+        }
+        for _ in 0..round % 6 {
+            telegram[random.below(n)] ^= 1;
+        }
+        let expected = condition_3(&telegram, Format::Long);
+        assert_eq!(layers::not_repeating(true, &telegram), expected);
+        holds += usize::from(expected);
+        fails += usize::from(!expected);
+    }
+    assert!(holds > 50 && fails > 50, "{holds} {fails}");
+    let short = random.bits(Format::Short.telegram_bits());
+    assert!(layers::not_repeating(false, &short));
+}
