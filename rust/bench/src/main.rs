@@ -1,5 +1,7 @@
-//! Times the proved layers against plain Rust in one run, and prints the
-//! medians of interleaved repetitions. It judges nothing.
+//! Times the proved calls and layers against plain Rust in one run, and prints
+//! the medians of interleaved repetitions. It judges nothing.
+
+mod calls;
 
 use second::cyclic;
 use second::format::Format;
@@ -86,6 +88,18 @@ fn median(mut times: Vec<f64>) -> f64 {
     times[times.len() / 2]
 }
 
+fn heading() {
+    println!(
+        "{:<34} {:>9} {:>9} {:>7}  aim",
+        "", "ours", "plain", "ratio"
+    );
+}
+
+fn print(name: &str, ours: f64, plain: f64, aim: &str) {
+    let ratio = ours / plain;
+    println!("{name:<34} {ours:>9.1} {plain:>9.1} {ratio:>7.3}  {aim}");
+}
+
 /// Prints a line of the table. Each closure does a number of calls on a set of
 /// inputs; `aim` says what the ratio of ours to plain is to be.
 fn line(
@@ -101,12 +115,15 @@ fn line(
         our_times.push(nanoseconds(|| ours(i)) / calls as f64);
         plain_times.push(nanoseconds(|| plain(i)) / calls as f64);
     }
-    let (ours, plain) = (median(our_times), median(plain_times));
-    let ratio = ours / plain;
-    println!("{name:<34} {ours:>9.1} {plain:>9.1} {ratio:>7.3}  {aim}");
+    print(name, median(our_times), median(plain_times), aim);
 }
 
 fn main() {
+    layers();
+    calls::calls();
+}
+
+fn layers() {
     let mut random = Random::new(1);
     let telegrams = inputs(&mut random, Format::Long.telegram_bits());
     let blocks = inputs(&mut random, Format::Long.user_bits());
@@ -116,10 +133,7 @@ fn main() {
     println!("Ours include the wrapper's test that each byte is a bit. Output buffers are");
     println!("cleared before the first call only, for both.");
     println!();
-    println!(
-        "{:<34} {:>9} {:>9} {:>7}  aim",
-        "", "ours", "plain", "ratio"
-    );
+    heading();
     let mut by_g = |i| {
         for bits in set(&telegrams, i) {
             layers::remainder_g(true, black_box(bits), &mut two_words);

@@ -1,5 +1,8 @@
-//! What the tests in tests/ share. They compare the proved layers with the
-//! second program.
+//! What the tests in tests/ share. They compare the proved calls and layers
+//! with the second program.
+
+pub mod calls;
+pub mod telegrams;
 
 use second::format::{Format, FORMATS};
 use second::random::Random;

@@ -1,0 +1,38 @@
+// The public calls for a caller in another language. A call answers one number, whose fields specs/Packed.antt gives,
+// and asks nothing of what it is given.
+ghost use mathlib.Core.Path.{_≡_};
+ghost use Rattle.encoder.specs.Encoding.{encodeOf};
+ghost use Rattle.checker.specs.Checking.{checkOf};
+ghost use Rattle.reader.specs.Reads.{readOf};
+ghost use Rattle.balise.specs.Packed.{packedEncoded, packedChecked, packedRead};
+
+mod packed;
+
+// Encodes a block: its telegram over the front of output. A refusal keeps every byte of output.
+#[no_mangle]
+pub extern "C" fn balise_encode(block: &[u8], output: &mut [u8]) -> u64
+    ensures answers { λ r. ⌜ r ≡ packedEncoded (encodeOf (now (block .entry)) (now (output .entry)) .answer) ⌝ }
+    ensures writes { λ _. ⌜ now (output .exit) ≡ encodeOf (now (block .entry)) (now (output .entry)) .output ⌝ }
+{
+    let answer = encoder::encode(block, output);
+    packed::encoded(answer)
+}
+
+// Checks a telegram.
+#[no_mangle]
+pub extern "C" fn balise_check(telegram: &[u8]) -> u64
+    ensures { λ r. ⌜ r ≡ packedChecked (checkOf (now (telegram .entry))) ⌝ }
+{
+    let answer = checker::check(telegram);
+    packed::checked(answer)
+}
+
+// Reads a window: its user bits over the front of output. A refusal keeps every byte of output.
+#[no_mangle]
+pub extern "C" fn balise_read(window: &[u8], output: &mut [u8]) -> u64
+    ensures answers { λ r. ⌜ r ≡ packedRead (readOf (now (window .entry)) (now (output .entry)) .answer) ⌝ }
+    ensures writes { λ _. ⌜ now (output .exit) ≡ readOf (now (window .entry)) (now (output .entry)) .output ⌝ }
+{
+    let answer = reader::read(window, output);
+    packed::read(answer)
+}

@@ -1,0 +1,142 @@
+//! The public calls against the second program's.
+
+use crate::{heading, line, nanoseconds, print, set, INPUTS, SETS};
+use second::format::{Format, FORMATS};
+use second::random::Random;
+use second::telegram::cut;
+use std::hint::black_box;
+
+/// Blocks of each format to encode.
+const BLOCKS: usize = 100;
+
+/// Times that each block is encoded; the least time counts.
+const TRIES: usize = 2;
+
+/// Different telegrams to check and to read; more would take long to make.
+const TELEGRAMS: usize = 64;
+
+/// The mean and the worst of the blocks' times, in microseconds.
+fn mean_and_worst(times: &[f64]) -> (f64, f64) {
+    let sum: f64 = times.iter().sum();
+    let worst = times.iter().copied().fold(0.0, f64::max);
+    (sum / times.len() as f64 / 1000.0, worst / 1000.0)
+}
+
+/// The least times of both encoders for each block.
+fn encode(blocks: &[Vec<u8>]) -> (Vec<f64>, Vec<f64>) {
+    let mut output = [0; Format::Long.telegram_bits()];
+    let (mut ours, mut plain) = (
+        vec![f64::INFINITY; blocks.len()],
+        vec![f64::INFINITY; blocks.len()],
+    );
+    for _ in 0..TRIES {
+        for (i, block) in blocks.iter().enumerate() {
+            let time = nanoseconds(|| {
+                black_box(balise::encode(black_box(block), &mut output)).expect("a pair");
+            });
+            ours[i] = ours[i].min(time);
+            let time = nanoseconds(|| {
+                black_box(second::encode(black_box(block), &mut output)).expect("a pair");
+            });
+            plain[i] = plain[i].min(time);
+        }
+    }
+    (ours, plain)
+}
+
+/// Proper telegrams of a format.
+fn telegrams(random: &mut Random, format: Format) -> Vec<Vec<u8>> {
+    (0..TELEGRAMS)
+        .map(|_| {
+            let mut output = vec![0; format.telegram_bits()];
+            let block = random.bits(format.user_bits());
+            second::encode_skipping(&block, &mut output).expect("a pair");
+            output
+        })
+        .collect()
+}
+
+pub fn calls() {
+    println!();
+    println!("The calls; plain is the second program's. Encoding: microseconds a block, over");
+    println!("{BLOCKS} random blocks of each format, the less of {TRIES} times.");
+    println!();
+    heading();
+    let mut random = Random::new(2);
+    for format in FORMATS {
+        let blocks: Vec<Vec<u8>> = (0..BLOCKS)
+            .map(|_| random.bits(format.user_bits()))
+            .collect();
+        let (ours, plain) = encode(&blocks);
+        let (our_mean, our_worst) = mean_and_worst(&ours);
+        let (plain_mean, plain_worst) = mean_and_worst(&plain);
+        let name = format.name();
+        print(
+            &format!("encode, {name}, mean"),
+            our_mean,
+            plain_mean,
+            "at most 1.0",
+        );
+        print(
+            &format!("encode, {name}, worst block"),
+            our_worst,
+            plain_worst,
+            "at most 1.0",
+        );
+    }
+    println!();
+    println!("Nanoseconds a call, medians as above: proper telegrams, and windows of them cut");
+    println!("at any turn, half of them flipped.");
+    println!();
+    heading();
+    for format in FORMATS {
+        let proper = telegrams(&mut random, format);
+        let inputs: Vec<Vec<u8>> = (0..SETS * INPUTS)
+            .map(|_| proper[random.below(TELEGRAMS)].clone())
+            .collect();
+        line(
+            &format!("check, {}", format.name()),
+            INPUTS,
+            "at most 1.5",
+            |i| {
+                for telegram in set(&inputs, i) {
+                    black_box(balise::check(black_box(telegram))).expect("a proper telegram");
+                }
+            },
+            |i| {
+                for telegram in set(&inputs, i) {
+                    black_box(second::check(black_box(telegram))).expect("a proper telegram");
+                }
+            },
+        );
+        let inputs: Vec<Vec<u8>> = (0..SETS * INPUTS)
+            .map(|i| {
+                let turn = random.below(format.telegram_bits());
+                cut(
+                    &proper[random.below(TELEGRAMS)],
+                    turn,
+                    format.window_bits(),
+                    i % 2 == 1,
+                )
+            })
+            .collect();
+        let (mut out, mut plain_out) = ([0; 830], [0; 830]);
+        line(
+            &format!("read, {}", format.name()),
+            INPUTS,
+            "at most 1.5",
+            |i| {
+                for window in set(&inputs, i) {
+                    black_box(balise::read(black_box(window), &mut out)).expect("a reading");
+                    black_box(&out);
+                }
+            },
+            |i| {
+                for window in set(&inputs, i) {
+                    black_box(second::read(black_box(window), &mut plain_out)).expect("a reading");
+                    black_box(&plain_out);
+                }
+            },
+        );
+    }
+}

@@ -1,0 +1,123 @@
+//! The public calls of both programs on one input. They must answer the same
+//! and leave the same bytes.
+
+use second::format::Format;
+use second::random::Random;
+use second::{Encoded, Reading, Refused};
+
+/// How often each number was answered; 0 stands for no refusal.
+#[derive(Default)]
+pub struct Tally([usize; 14]);
+
+impl Tally {
+    pub fn add<T>(&mut self, answer: Result<T, u8>) {
+        self.0[usize::from(answer.err().unwrap_or(0))] += 1;
+    }
+
+    /// The numbers that were answered.
+    pub fn numbers(&self) -> Vec<usize> {
+        (0..14).filter(|&number| self.0[number] > 0).collect()
+    }
+
+    pub fn total(&self) -> usize {
+        self.0.iter().sum()
+    }
+
+    pub fn print(&self, what: &str) {
+        println!("{} {what}", self.total());
+        for number in self.numbers() {
+            println!("{number:>4}: {}", self.0[number]);
+        }
+    }
+}
+
+fn format(format: balise::Format) -> Format {
+    match format {
+        balise::Format::Long => Format::Long,
+        balise::Format::Short => Format::Short,
+    }
+}
+
+/// The number of a refusal that counts no pairs.
+fn number(refused: balise::Refused) -> u8 {
+    assert_eq!(refused.count, 0);
+    refused.number
+}
+
+/// Runs both programs on outputs of this length with the same random bytes.
+/// Beyond the first `written` bytes, and everywhere on a refusal, the bytes
+/// must be kept.
+fn compared<T: std::fmt::Debug + PartialEq, R: std::fmt::Debug + PartialEq>(
+    random: &mut Random,
+    room: usize,
+    ours: impl FnOnce(&mut [u8]) -> Result<T, R>,
+    second: impl FnOnce(&mut [u8]) -> Result<T, R>,
+    written: impl FnOnce(&T) -> usize,
+) -> (Result<T, R>, Vec<u8>) {
+    let before: Vec<u8> = (0..room).map(|_| random.number() as u8).collect();
+    let (mut output, mut other) = (before.clone(), before.clone());
+    let answer = ours(&mut output);
+    assert_eq!(answer, second(&mut other));
+    assert_eq!(output, other);
+    let written = answer.as_ref().map_or(0, written);
+    assert_eq!(output[written..], before[written..]);
+    (answer, output)
+}
+
+/// The second program's encoder, or its quicker one.
+pub type Encoder = fn(&[u8], &mut [u8]) -> Result<Encoded, Refused>;
+
+/// Encodes a block into an output of this length: the answer and the output.
+pub fn encode(
+    random: &mut Random,
+    second: Encoder,
+    block: &[u8],
+    room: usize,
+) -> (Result<Encoded, Refused>, Vec<u8>) {
+    let ours = |output: &mut [u8]| match balise::encode(block, output) {
+        Ok(encoded) => Ok(Encoded {
+            format: format(encoded.format),
+            b: encoded.b,
+            esb: encoded.esb,
+            count: encoded.count,
+        }),
+        Err(refused) => Err(Refused {
+            number: refused.number,
+            count: refused.count,
+        }),
+    };
+    compared(
+        random,
+        room,
+        ours,
+        |output| second(block, output),
+        |encoded| encoded.format.telegram_bits(),
+    )
+}
+
+/// Checks a telegram.
+pub fn check(telegram: &[u8]) -> Result<Format, u8> {
+    let answer = balise::check(telegram).map(format).map_err(number);
+    assert_eq!(answer, second::check(telegram));
+    answer
+}
+
+/// Reads a window into an output of this length: the answer and the output.
+pub fn read(random: &mut Random, window: &[u8], room: usize) -> (Result<Reading, u8>, Vec<u8>) {
+    let ours = |output: &mut [u8]| {
+        let reading = balise::read(window, output).map_err(number)?;
+        Ok(Reading {
+            format: format(reading.format),
+            b: reading.b,
+            turn: reading.turn,
+            flipped: reading.flipped,
+        })
+    };
+    compared(
+        random,
+        room,
+        ours,
+        |output| second::read(window, output),
+        |reading| reading.format.user_bits(),
+    )
+}

@@ -1,0 +1,31 @@
+//! The bench sheet's cases that a call answers (document 01, "Bench sheet"):
+//! W10 to W12 and the line "Also", through both programs. Captures are in
+//! programs.rs, runs in conditions.rs.
+
+use compare::calls::read;
+use second::random::Random;
+
+/// The refusal with which both programs answer a window, lent this room.
+fn refused(window: &[u8], room: usize) -> u8 {
+    let (answer, _) = read(&mut Random::new(41), window, room);
+    answer.expect_err("a refusal")
+}
+
+#[test]
+fn w10_to_w12() {
+    let mut window = vec![0; 462];
+    assert_eq!(refused(&window, 210), 7);
+    window[461] = 1;
+    assert_eq!(refused(&window, 210), 5);
+    assert_eq!(refused(&[0; 461], 210), 1);
+}
+
+#[test]
+fn also() {
+    assert_eq!(refused(&[0; 463], 210), 1);
+    assert_eq!(refused(&[], 210), 1);
+    assert_eq!(refused(&[0; 1100], 830), 7);
+    let mut window = [0; 462];
+    window[100] = 2;
+    assert_eq!(refused(&window, 209), 2);
+}

@@ -1,0 +1,157 @@
+//! Encoding: the pair, the count and every byte of the output.
+
+use compare::calls::{encode, Encoder};
+use compare::{both_formats, patterns};
+use second::appendices::{appendix_b, block_without_a_pair};
+use second::encode::PAIRS;
+use second::format::Format;
+use second::random::Random;
+use second::read::user_bits_of;
+use second::telegram::{b_of, esb_of};
+use second::{Encoded, Refused};
+
+/// Encodes a block that has a pair, into outputs of its size and larger.
+fn compare_block(random: &mut Random, block: &[u8]) -> (Encoded, Vec<u8>) {
+    let n = Format::of_block(block.len()).unwrap().telegram_bits();
+    let room = n + random.below(40);
+    let (answer, mut output) = encode(random, second::encode, block, room);
+    output.truncate(n);
+    let encoded = answer.unwrap();
+    let count = 1024 * u32::from(encoded.b) + u32::from(encoded.esb) + 1;
+    assert_eq!(encoded.count, count);
+    (encoded, output)
+}
+
+/// Random blocks of each format: 100, or as BALISE_BLOCKS says.
+fn block_count() -> usize {
+    match std::env::var("BALISE_BLOCKS") {
+        Ok(count) => count.parse().expect("BALISE_BLOCKS is a number"),
+        Err(_) => 100,
+    }
+}
+
+fn compare_random_blocks(format: Format) {
+    let mut random = Random::new(61);
+    for _ in 0..block_count() {
+        let block = random.bits(format.user_bits());
+        compare_block(&mut random, &block);
+    }
+}
+
+#[test]
+fn random_long_blocks() {
+    compare_random_blocks(Format::Long);
+}
+
+#[test]
+fn random_short_blocks() {
+    compare_random_blocks(Format::Short);
+}
+
+/// The first pair is the printed one in five rows.
+#[test]
+fn blocks_of_appendix_b() {
+    let mut random = Random::new(62);
+    let mut printed = Vec::new();
+    for row in appendix_b() {
+        let (format, telegram) = (row.format(), row.telegram_bits());
+        let carried = user_bits_of(&telegram, format).unwrap();
+        let (encoded, output) = compare_block(&mut random, &carried);
+        assert_eq!(encoded.format, format);
+        let pair = (b_of(&telegram, format), esb_of(&telegram, format));
+        assert_eq!((encoded.b, encoded.esb) == pair, output == telegram);
+        if output == telegram {
+            printed.push(row.number);
+        }
+        // Row 5's block does not belong to its telegram.
+        let filled = row.filled_user_bits();
+        assert_eq!(filled == carried, row.number != 5);
+        if filled != carried {
+            compare_block(&mut random, &filled);
+        }
+    }
+    assert_eq!(printed, [4, 6, 7, 9, 10]);
+}
+
+/// All 0, all 1, periods, and a single 1 or 0.
+#[test]
+fn patterned_blocks() {
+    both_formats(63, |format, random| {
+        let m = format.user_bits();
+        for block in patterns(m) {
+            compare_block(random, &block);
+        }
+        for place in [0, 9, 10, m / 2, m - 1] {
+            for value in [0, 1] {
+                let mut block = vec![1 - value; m];
+                block[place] = value;
+                compare_block(random, &block);
+            }
+        }
+    });
+}
+
+#[test]
+fn a_block_without_a_pair() {
+    let mut random = Random::new(64);
+    let quick: Encoder = second::encode_skipping;
+    let refused = Refused {
+        number: 4,
+        count: PAIRS,
+    };
+    assert_eq!(PAIRS, 4_194_304);
+    let (answer, _) = encode(&mut random, quick, &block_without_a_pair(), 1040);
+    assert_eq!(answer, Err(refused));
+}
+
+fn refuse(random: &mut Random, block: &[u8], room: usize, number: u8) {
+    let (answer, _) = encode(random, second::encode, block, room);
+    assert_eq!(answer, Err(Refused { number, count: 0 }));
+}
+
+#[test]
+fn lengths_that_fit_no_format() {
+    let mut random = Random::new(65);
+    for length in (0..=1200).filter(|length| ![210, 830].contains(length)) {
+        for room in [0, 340, 1022, 1023, 1100] {
+            let mut block = random.bits(length);
+            refuse(&mut random, &block, room, 1);
+            if length > 0 {
+                block[random.below(length)] = 2;
+                refuse(&mut random, &block, room, 1);
+            }
+        }
+    }
+}
+
+#[test]
+fn bytes_that_are_no_bits() {
+    both_formats(66, |format, random| {
+        let (m, n) = (format.user_bits(), format.telegram_bits());
+        let drawn: Vec<usize> = random.places(20, m);
+        for place in [0, 1, m / 2, m - 2, m - 1].into_iter().chain(drawn) {
+            for value in [2, 3, 128, 254, 255] {
+                for room in [0, n - 1, n, n + 9] {
+                    let mut block = random.bits(m);
+                    block[place] = value;
+                    refuse(random, &block, room, 2);
+                }
+            }
+        }
+        refuse(random, &vec![255; m], n, 2);
+    });
+}
+
+#[test]
+fn outputs_that_are_too_short() {
+    both_formats(67, |format, random| {
+        let n = format.telegram_bits();
+        for room in 0..n {
+            let block = random.bits(format.user_bits());
+            refuse(random, &block, room, 3);
+        }
+        // One byte more is enough.
+        let block = random.bits(format.user_bits());
+        assert!(encode(random, second::encode, &block, n).0.is_ok());
+    });
+}
