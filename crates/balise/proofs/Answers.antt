@@ -1,6 +1,7 @@
--- What the calls answer fits the fields of the packed answer: B has twelve bits, esb and a turn have ten, and a count has 23.
+-- What the calls answer fits the fields of the packed answer: B has twelve bits, esb and a turn have ten, a count has 23,
+-- and a place is at most 7,500.
 -- Assumes nothing.
-use mathlib.Core.Path.{_≡_, refl, ap}
+use mathlib.Core.Path.{_≡_, refl, sym, ap}
 use mathlib.Core.Bool.{Bool, true, false}
 use mathlib.Core.List.{List}
 use Prim.Native.Nat.{ℕ, _≤_, _<_}
@@ -31,7 +32,12 @@ use Rattle.reader.specs.declared.ReadAnswer.the-variants.{Read, Refused as NotR
 use Rattle.reader.specs.Reads.{telegramIn, readingOf, readFit, readOf}
 use Rattle.reader.proofs.Accepted.{accepted-passed}
 use Rattle.reader.proofs.Parts.Found.{bits-found}
-use Rattle.balise.specs.Packed.{turnIn}
+use Rattle.captures.specs.declared.Capture.{Capture}
+use Rattle.captures.specs.declared.Capture.the-variants.{Found, Refused as NotFound}
+use Rattle.captures.specs.Captures.{windowAt, searchOf}
+use Rattle.captures.proofs.Attempts.{zeros, zeros-room}
+use Rattle.captures.proofs.FirstPlace.{searches}
+use Rattle.balise.specs.Packed.{turnIn, turnFound, placeFound}
 
 -- ---- encode
 
@@ -108,3 +114,22 @@ module _ (w out o : List ℕ) (reading : Reading) where
 pub turn-fits : (w out o : List ℕ) (answer : ReadAnswer) → readOf w out ≡ outcome answer o → turnIn answer < 1024
 turn-fits w out o (Read reading) e = reading-fits w out o reading e .turn
 turn-fits w out o (NotRead refusal) e = omega arith
+
+-- ---- search
+
+-- the reading and the place that search finds
+pub found-fits : (s : List ℕ) (p : ℕ) (reading : Reading) → searchOf s ≡ Found p reading → ReadingFits reading × (p ≤ 7500)
+found-fits s p reading e =
+    let known = searches s .finds p reading .0 e in
+    let w = windowAt (reading .format) s p in
+    let reads = known .1 .here .reads zeros (zeros-room (reading .format)) in (
+      reading-fits w zeros (readOf w zeros .output) reading (ap (λ (a : ReadAnswer). outcome a (readOf w zeros .output)) reads),
+      omega (arith, known .0 .0, known .1 .here .fits),
+    )
+
+-- whatever search answers
+pub search-fits : (s : List ℕ) (answer : Capture) → answer ≡ searchOf s → (turnFound answer < 1024) × (placeFound answer ≤ 7500)
+search-fits s (Found p reading) e =
+    let fits = found-fits s p reading (sym e) in
+    (fits .0 .turn, fits .1)
+search-fits s (NotFound refusal) e = (omega arith, omega arith)

@@ -18,8 +18,10 @@ use Rattle.encoder.specs.Encoding.{encodeOf}
 use Rattle.reader.specs.declared.Reading.{Reading}
 use Rattle.reader.specs.declared.ReadAnswer.the-variants.{Read, Refused as NotRead}
 use Rattle.reader.specs.Reads.{readOf}
-use Rattle.balise.specs.Packed.{formatBit, flippedBit, encodedFields, readFields, packedEncoded, packedChecked, packedRead}
-use Rattle.balise.proofs.Answers.{EncodedFits, encoded-fits, reading-fits}
+use Rattle.captures.specs.declared.Capture.the-variants.{Found, Refused as NotFound}
+use Rattle.captures.specs.Captures.{searchOf}
+use Rattle.balise.specs.Packed.{formatBit, flippedBit, encodedFields, readFields, searchFields, packedEncoded, packedChecked, packedRead, packedSearch}
+use Rattle.balise.proofs.Answers.{EncodedFits, encoded-fits, reading-fits, found-fits}
 
 format-fits : (format : Format) → formatBit format < 2
 format-fits Long = omega arith
@@ -134,3 +136,44 @@ module _ (w out o : List ℕ) where
       → ReadBack (packedRead (readOf w out .answer)) (refusalNumber refusal) 0 0 0 0
   read-refusal-back refusal e =
       rw e (fields-back (refusalNumber refusal) 0 0 0 0 (number-fits refusal .1) (omega arith) (omega arith) (omega arith) (omega arith))
+
+-- ---- search
+
+-- what bits 0 to 7, 8, 9, 10 to 21, 22 to 31 and 32 up of p are
+pub record SearchBack (p number format flipped B turn place : ℕ) : Type 0 where
+  pub number-is : p % 256 ≡ number
+  pub format-is : p / 256 % 2 ≡ format
+  pub flipped-is : p / 512 % 2 ≡ flipped
+  pub B-is : p / 1024 % 4096 ≡ B
+  pub turn-is : p / 4194304 % 1024 ≡ turn
+  pub place-is : p / 4294967296 ≡ place
+
+search-back : (number format flipped B turn place : ℕ) → number < 256 → format < 2 → flipped < 2 → B < 4096 → turn < 1024
+    → SearchBack (searchFields number format flipped B turn place) number format flipped B turn place
+search-back number format flipped B turn place n f l b t =
+    record {
+      number-is = omega arith;
+      format-is = omega arith;
+      flipped-is = omega arith;
+      B-is = omega arith;
+      turn-is = omega arith;
+      place-is = omega arith;
+    }
+
+module _ (s : List ℕ) where
+  pub found-back : (place : ℕ) (reading : Reading) → searchOf s ≡ Found place reading
+      → SearchBack (packedSearch (searchOf s)) 0 (formatBit (reading .format)) (flippedBit (reading .flipped)) (reading .scrambling) (reading .turn) place
+  found-back place reading e =
+      let fits = found-fits s place reading e .0 in
+      rw e
+      (search-back 0 (formatBit (reading .format)) (flippedBit (reading .flipped)) (reading .scrambling) (reading .turn) place (omega arith)
+      (format-fits (reading .format))
+      (flipped-fits (reading .flipped))
+      (fits .scrambling)
+      (fits .turn))
+
+  pub search-refusal-back : (refusal : Refusal) → searchOf s ≡ NotFound refusal
+      → SearchBack (packedSearch (searchOf s)) (refusalNumber refusal) 0 0 0 0 0
+  search-refusal-back refusal e =
+      rw e
+      (search-back (refusalNumber refusal) 0 0 0 0 0 (number-fits refusal .1) (omega arith) (omega arith) (omega arith) (omega arith))

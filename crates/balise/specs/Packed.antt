@@ -12,6 +12,8 @@ use Rattle.checker.specs.declared.Checked.{Checked}
 use Rattle.checker.specs.declared.Checked.the-variants.{Proper, Refused as NotProper}
 use Rattle.reader.specs.declared.ReadAnswer.{ReadAnswer}
 use Rattle.reader.specs.declared.ReadAnswer.the-variants.{Read, Refused as NotRead}
+use Rattle.captures.specs.declared.Capture.{Capture}
+use Rattle.captures.specs.declared.Capture.the-variants.{Found, Refused as NotFound}
 
 -- a field of `size` values, and the fields above it
 abbrev pub field : ℕ → ℕ → ℕ → ℕ
@@ -53,3 +55,21 @@ packedRead (NotRead refusal) = readFields (refusalNumber refusal) 0 0 0 0
 abbrev pub turnIn : ReadAnswer → ℕ
 turnIn (Read reading) = reading .turn
 turnIn (NotRead refusal) = 0
+
+-- bits 0 to 7 the number, 8 the format, 9 whether it was flipped, 10 to 21 B, 22 to 31 the turn, 32 up the place
+abbrev pub searchFields : ℕ → ℕ → ℕ → ℕ → ℕ → ℕ → ℕ
+searchFields number format flipped B turn place = readFields number format flipped B (field 1024 turn place)
+
+abbrev pub packedSearch : Capture → ℕ
+packedSearch (Found place reading) =
+    searchFields 0 (formatBit (reading .format)) (flippedBit (reading .flipped)) (reading .scrambling) (reading .turn) place
+packedSearch (NotFound refusal) = searchFields (refusalNumber refusal) 0 0 0 0 0
+
+-- the turn and the place that an answer has; 0 where it has none
+abbrev pub turnFound : Capture → ℕ
+turnFound (Found place reading) = reading .turn
+turnFound (NotFound refusal) = 0
+
+abbrev pub placeFound : Capture → ℕ
+placeFound (Found place reading) = place
+placeFound (NotFound refusal) = 0

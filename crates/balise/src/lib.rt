@@ -4,7 +4,8 @@ ghost use mathlib.Core.Path.{_≡_};
 ghost use Rattle.encoder.specs.Encoding.{encodeOf};
 ghost use Rattle.checker.specs.Checking.{checkOf};
 ghost use Rattle.reader.specs.Reads.{readOf};
-ghost use Rattle.balise.specs.Packed.{packedEncoded, packedChecked, packedRead};
+ghost use Rattle.captures.specs.Captures.{searchOf};
+ghost use Rattle.balise.specs.Packed.{packedEncoded, packedChecked, packedRead, packedSearch};
 
 mod packed;
 
@@ -35,4 +36,13 @@ pub extern "C" fn balise_read(window: &[u8], output: &mut [u8]) -> u64
 {
     let answer = reader::read(window, output);
     packed::read(answer)
+}
+
+// Searches a capture for the first window that reads.
+#[no_mangle]
+pub extern "C" fn balise_search(capture: &[u8]) -> u64
+    ensures { λ r. ⌜ r ≡ packedSearch (searchOf (now (capture .entry))) ⌝ }
+{
+    let answer = captures::search(capture);
+    packed::searched(answer)
 }

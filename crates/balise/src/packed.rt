@@ -1,7 +1,8 @@
 // The answers of the public calls as numbers.
 ghost use mathlib.Core.Path.{_≡_};
-ghost use Prim.Native.Nat.{_<_};
-ghost use Rattle.balise.specs.Packed.{formatBit, flippedBit, encodedFields, readFields, packedEncoded, packedChecked, packedRead, turnIn};
+ghost use Prim.Native.Nat.{_≤_, _<_};
+ghost use Rattle.balise.specs.Packed.{formatBit, flippedBit, encodedFields, readFields, searchFields, packedEncoded, packedChecked, packedRead, packedSearch, turnIn, turnFound, placeFound};
+use captures::Capture;
 use checker::Checked;
 use encoder::Encoded;
 use formats::format::Format;
@@ -43,6 +44,17 @@ fn read_fields(number: u8, format: u8, flipped: u8, b: u16, turn: usize) -> u64
     number as u64 + 256 * (format as u64 + 2 * (flipped as u64 + 2 * scrambling))
 }
 
+// The fields of the search's answer.
+fn search_fields(format: u8, flipped: u8, b: u16, turn: usize, place: usize) -> u64
+    requires { ⌜ turn < 1024 ⌝ }
+    requires { ⌜ place ≤ 7500 ⌝ }
+    ensures { λ r. ⌜ r ≡ searchFields 0 format flipped b turn place ⌝ }
+{
+    let above = turn as u64 + 1024 * (place as u64);
+    let scrambling = b as u64 + 4096 * above;
+    256 * (format as u64 + 2 * (flipped as u64 + 2 * scrambling))
+}
+
 pub fn encoded(answer: Encoded) -> u64
     ensures { λ r. ⌜ r ≡ packedEncoded answer ⌝ }
 {
@@ -81,5 +93,22 @@ pub fn read(answer: ReadAnswer) -> u64
             read_fields(0, format_bit(format), flipped_bit(flipped), bits, turn)
         }
         ReadAnswer::Refused(refusal) => refusal::number(refusal) as u64,
+    }
+}
+
+pub fn searched(answer: Capture) -> u64
+    requires { ⌜ turnFound answer < 1024 ⌝ }
+    requires { ⌜ placeFound answer ≤ 7500 ⌝ }
+    ensures { λ r. ⌜ r ≡ packedSearch answer ⌝ }
+{
+    match answer {
+        Capture::Found { place, reading } => {
+            let format = reading.format;
+            let flipped = reading.flipped;
+            let bits = reading.scrambling;
+            let turn = reading.turn;
+            search_fields(format_bit(format), flipped_bit(flipped), bits, turn, place)
+        }
+        Capture::Refused(refusal) => refusal::number(refusal) as u64,
     }
 }

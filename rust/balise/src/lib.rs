@@ -1,7 +1,7 @@
 //! The proved calls, through their static library. Each takes what it is given
 //! and answers or refuses; nothing here panics. Nothing checks the declarations
 //! against crates/balise/src/lib.rt, nor the fields against
-//! crates/balise/specs/Packed.antt.
+//! crates/balise/specs/Packed.antt. include/balise.h declares the same for C.
 
 mod exported {
     unsafe extern "C" {
@@ -18,6 +18,7 @@ mod exported {
             output: *mut u8,
             output_len: usize,
         ) -> u64;
+        pub fn balise_search(capture: *const u8, capture_len: usize) -> u64;
     }
 }
 
@@ -25,6 +26,16 @@ mod exported {
 pub enum Format {
     Long,
     Short,
+}
+
+impl Format {
+    /// The bits of a window.
+    pub const fn window_bits(self) -> usize {
+        match self {
+            Format::Long => 1100,
+            Format::Short => 462,
+        }
+    }
 }
 
 /// A refusal's number; the count of pairs tried is 0 except for number 4.
@@ -52,6 +63,13 @@ pub struct Reading {
     pub flipped: bool,
 }
 
+/// The first place of a capture at which a window is read, and its reading.
+#[derive(Clone, Copy, Debug, PartialEq, Eq)]
+pub struct Found {
+    pub place: usize,
+    pub reading: Reading,
+}
+
 /// The fields of an answer that are not taken yet, the lowest first.
 struct Fields(u64);
 
@@ -71,6 +89,18 @@ impl Fields {
         match self.take(1) {
             0 => Format::Long,
             _ => Format::Short,
+        }
+    }
+
+    /// What read and search share.
+    fn reading(&mut self) -> Reading {
+        let format = self.format();
+        let flipped = self.take(1) == 1;
+        Reading {
+            format,
+            b: self.take(12) as u16,
+            turn: self.take(10) as usize,
+            flipped,
         }
     }
 }
@@ -129,16 +159,30 @@ pub fn read(window: &[u8], output: &mut [u8]) -> Result<Reading, Refused> {
         )
     });
     match fields.number() {
+        0 => Ok(fields.reading()),
+        number => Err(Refused { number, count: 0 }),
+    }
+}
+
+/// Searches a capture: places from 0 up, long before short at one place.
+pub fn search(capture: &[u8]) -> Result<Found, Refused> {
+    // SAFETY: as for `check`.
+    let mut fields = Fields(unsafe { exported::balise_search(capture.as_ptr(), capture.len()) });
+    match fields.number() {
         0 => {
-            let format = fields.format();
-            let flipped = fields.take(1) == 1;
-            Ok(Reading {
-                format,
-                b: fields.take(12) as u16,
-                turn: fields.take(10) as usize,
-                flipped,
-            })
+            let reading = fields.reading();
+            let place = fields.take(32) as usize;
+            Ok(Found { place, reading })
         }
         number => Err(Refused { number, count: 0 }),
+    }
+}
+
+/// The window that `search` finds, as a part of the capture itself; empty where
+/// it finds none. The window that an answer names lies in the capture.
+pub fn stretch(capture: &[u8]) -> &[u8] {
+    match search(capture) {
+        Ok(found) => &capture[found.place..][..found.reading.format.window_bits()],
+        Err(_) => &capture[..0],
     }
 }

@@ -2,6 +2,7 @@
 //! the medians of interleaved repetitions. It judges nothing.
 
 mod calls;
+mod captures;
 
 use second::cyclic;
 use second::format::Format;
@@ -121,6 +122,7 @@ fn line(
 fn main() {
     layers();
     calls::calls();
+    captures::captures();
 }
 
 fn layers() {

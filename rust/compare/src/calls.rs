@@ -3,7 +3,7 @@
 
 use second::format::Format;
 use second::random::Random;
-use second::{Encoded, Reading, Refused};
+use second::{Encoded, Found, Reading, Refused};
 
 /// How often each number was answered; 0 stands for no refusal.
 #[derive(Default)]
@@ -38,15 +38,27 @@ fn format(format: balise::Format) -> Format {
     }
 }
 
+fn reading(reading: balise::Reading) -> Reading {
+    Reading {
+        format: format(reading.format),
+        b: reading.b,
+        turn: reading.turn,
+        flipped: reading.flipped,
+    }
+}
+
 /// The number of a refusal that counts no pairs.
 fn number(refused: balise::Refused) -> u8 {
     assert_eq!(refused.count, 0);
     refused.number
 }
 
-/// Runs both programs on outputs of this length with the same random bytes.
-/// Beyond the first `written` bytes, and everywhere on a refusal, the bytes
-/// must be kept.
+/// Bytes on either side of an output, which must be kept.
+const GUARD: usize = 32;
+
+/// Runs both programs on outputs of this length with the same random bytes,
+/// between the same guard bytes. Beyond the first `written` bytes, and
+/// everywhere on a refusal, the bytes must be kept.
 fn compared<T: std::fmt::Debug + PartialEq, R: std::fmt::Debug + PartialEq>(
     random: &mut Random,
     room: usize,
@@ -54,14 +66,18 @@ fn compared<T: std::fmt::Debug + PartialEq, R: std::fmt::Debug + PartialEq>(
     second: impl FnOnce(&mut [u8]) -> Result<T, R>,
     written: impl FnOnce(&T) -> usize,
 ) -> (Result<T, R>, Vec<u8>) {
-    let before: Vec<u8> = (0..room).map(|_| random.number() as u8).collect();
+    let before: Vec<u8> = (0..room + 2 * GUARD)
+        .map(|_| random.number() as u8)
+        .collect();
     let (mut output, mut other) = (before.clone(), before.clone());
-    let answer = ours(&mut output);
-    assert_eq!(answer, second(&mut other));
+    let answer = ours(&mut output[GUARD..][..room]);
+    assert_eq!(answer, second(&mut other[GUARD..][..room]));
     assert_eq!(output, other);
-    let written = answer.as_ref().map_or(0, written);
-    assert_eq!(output[written..], before[written..]);
-    (answer, output)
+    let end = GUARD + answer.as_ref().map_or(0, written);
+    assert_eq!(output[..GUARD], before[..GUARD]);
+    assert_eq!(output[end..], before[end..]);
+    output.truncate(GUARD + room);
+    (answer, output.split_off(GUARD))
 }
 
 /// The second program's encoder, or its quicker one.
@@ -104,15 +120,7 @@ pub fn check(telegram: &[u8]) -> Result<Format, u8> {
 
 /// Reads a window into an output of this length: the answer and the output.
 pub fn read(random: &mut Random, window: &[u8], room: usize) -> (Result<Reading, u8>, Vec<u8>) {
-    let ours = |output: &mut [u8]| {
-        let reading = balise::read(window, output).map_err(number)?;
-        Ok(Reading {
-            format: format(reading.format),
-            b: reading.b,
-            turn: reading.turn,
-            flipped: reading.flipped,
-        })
-    };
+    let ours = |output: &mut [u8]| balise::read(window, output).map(reading).map_err(number);
     compared(
         random,
         room,
@@ -120,4 +128,28 @@ pub fn read(random: &mut Random, window: &[u8], room: usize) -> (Result<Reading,
         |output| second::read(window, output),
         |reading| reading.format.user_bits(),
     )
+}
+
+/// Searches a capture; the stretch is the window found, in the capture itself,
+/// and reads as the search says.
+pub fn search(random: &mut Random, capture: &[u8]) -> Result<Found, u8> {
+    let second = second::search(capture);
+    let stretch = balise::stretch(capture);
+    match (balise::search(capture), &second) {
+        (Ok(ours), Ok(found)) => {
+            assert_eq!(ours.place, found.place);
+            assert_eq!(reading(ours.reading), found.reading);
+            let window = &capture[found.place..][..found.reading.format.window_bits()];
+            assert!(std::ptr::eq(stretch, window));
+            let (answer, user) = read(random, stretch, found.reading.format.user_bits());
+            assert_eq!(answer.as_ref(), Ok(&found.reading));
+            assert_eq!(user, found.user);
+        }
+        (Err(refused), Err(other)) => {
+            assert_eq!(number(refused), *other);
+            assert!(stretch.is_empty());
+        }
+        (ours, found) => panic!("{ours:?}, and the second program {found:?}"),
+    }
+    second
 }

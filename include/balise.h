@@ -1,0 +1,109 @@
+/* The proved calls of crates/balise, for C and C++. Link libbalise.a, which
+ * `rt staticlib balise` writes to target/staticlib/ (x86-64, System V calling
+ * convention); it needs memcpy and memset of the C library.
+ *
+ * Bits are held one to a byte, 0 or 1, earliest sent first. A buffer is passed
+ * as a pointer and a length in bytes. Every call ends, whatever the bytes and
+ * lengths are, and answers one number: its lowest eight bits are 0, or the
+ * number of the refusal. A call keeps no pointer and allocates nothing.
+ *
+ * Nothing checks
+ *   - that a pointer is valid for its length: not NULL, even with length 0, and
+ *     the length at most PTRDIFF_MAX;
+ *   - that an output overlaps no input;
+ *   - that no other thread writes a buffer, or reads an output, during a call;
+ *   - that these declarations and fields are those of the library's source,
+ *     crates/balise/src/lib.rt and specs/Packed.antt. Tests compare them.
+ */
+#ifndef BALISE_H
+#define BALISE_H
+
+#include <stddef.h>
+#include <stdint.h>
+
+#ifdef __cplusplus
+extern "C" {
+#endif
+
+/* Encodes a block of BALISE_USER_BITS into a telegram.
+ * block: 830 or 210 bits. output: at least 1023 or 341 bytes; the telegram goes
+ * into its front, and the rest is kept. A refusal keeps every byte.
+ * Answer: number, format, BALISE_ENCODED_B, _ESB and _COUNT.
+ * Refusals: 1, 2, 3, 4. Refusal 4 has the count of pairs tried. */
+uint64_t balise_encode(const uint8_t *block, size_t block_len, uint8_t *output,
+                       size_t output_len);
+
+/* Checks a telegram of 1023 or 341 bits.
+ * Answer: number, format.
+ * Refusals: 1, 2, 6 to 12. */
+uint64_t balise_check(const uint8_t *telegram, size_t telegram_len);
+
+/* Reads a window of 1100 or 462 bits.
+ * output: at least 830 or 210 bytes; the user bits go into its front, and the
+ * rest is kept. A refusal keeps every byte.
+ * Answer: number, format, BALISE_READ_FLIPPED, _B and _TURN.
+ * Refusals: 1, 2, 3, 5 to 9. */
+uint64_t balise_read(const uint8_t *window, size_t window_len, uint8_t *output,
+                     size_t output_len);
+
+/* Searches a capture of at most 7500 bits for the first window that reads:
+ * places from 0 up, long before short at one place.
+ * Answer: as balise_read, of the window found, and BALISE_PLACE: the window is
+ * capture[place] and on, BALISE_WINDOW_BITS(format) long, and lies in the
+ * capture. Its user bits are those that balise_read writes for it.
+ * Refusals: 1, 2, 13. */
+uint64_t balise_search(const uint8_t *capture, size_t capture_len);
+
+#ifdef __cplusplus
+}
+#endif
+
+/* ---- the fields of an answer */
+
+/* Any answer: 0, or the refusal. */
+#define BALISE_NUMBER(answer) ((unsigned)((uint64_t)(answer) & 0xff))
+
+/* Any answer without a refusal. */
+#define BALISE_LONG 0
+#define BALISE_SHORT 1
+#define BALISE_FORMAT(answer) ((unsigned)((uint64_t)(answer) >> 8 & 1))
+
+/* balise_encode: the scrambling bits, the extra shaping bits, and the pairs
+ * tried up to this one; the last also of refusal 4. */
+#define BALISE_ENCODED_B(answer) ((unsigned)((uint64_t)(answer) >> 9 & 0xfff))
+#define BALISE_ENCODED_ESB(answer) ((unsigned)((uint64_t)(answer) >> 21 & 0x3ff))
+#define BALISE_ENCODED_COUNT(answer) ((uint32_t)((uint64_t)(answer) >> 31 & 0x7fffff))
+
+/* balise_read and balise_search: whether the window is flipped (1), the
+ * scrambling bits, and the turn. */
+#define BALISE_READ_FLIPPED(answer) ((unsigned)((uint64_t)(answer) >> 9 & 1))
+#define BALISE_READ_B(answer) ((unsigned)((uint64_t)(answer) >> 10 & 0xfff))
+#define BALISE_READ_TURN(answer) ((unsigned)((uint64_t)(answer) >> 22 & 0x3ff))
+
+/* balise_search. */
+#define BALISE_PLACE(answer) ((size_t)((uint64_t)(answer) >> 32))
+
+/* ---- sizes, by format */
+
+#define BALISE_USER_BITS(format) ((format) == BALISE_LONG ? 830 : 210)
+#define BALISE_TELEGRAM_BITS(format) ((format) == BALISE_LONG ? 1023 : 341)
+#define BALISE_WINDOW_BITS(format) ((format) == BALISE_LONG ? 1100 : 462)
+#define BALISE_CAPTURE_LIMIT 7500
+
+/* ---- refusals: the lowest that applies */
+
+#define BALISE_LENGTH 1        /* the length fits no format, or is over the limit */
+#define BALISE_NOT_A_BIT 2     /* a byte other than 0 or 1 */
+#define BALISE_OUTPUT_SHORT 3  /* the output is too short */
+#define BALISE_NO_PAIR 4       /* no pair gives a proper telegram */
+#define BALISE_SEAM 5          /* the ends of the window differ */
+#define BALISE_NOT_DIVISIBLE 6 /* not divisible by g */
+#define BALISE_NO_TURN 7       /* no turn has this remainder; in check, not turn 0 */
+#define BALISE_CONTROL 8       /* the control bits are not 0, 0, 1 */
+#define BALISE_NOT_A_WORD 9    /* a word is not in the table */
+#define BALISE_OFF_STEP 10     /* condition 2 fails */
+#define BALISE_REPEATING 11    /* condition 3 fails */
+#define BALISE_THINNED 12      /* condition 4 fails */
+#define BALISE_NO_PLACE 13     /* no place of the capture reads */
+
+#endif

@@ -1,0 +1,305 @@
+//! Any bytes to the four calls: 200,000 calls in all, or as many as the variable
+//! BALISE_CALLS says. Every answer and every byte of the outputs and around them
+//! is that of the second program.
+
+use compare::calls::{check, encode, read, search, Tally};
+use compare::patterns;
+use compare::telegrams::*;
+use second::appendices::appendix_b;
+use second::bits::all_bits;
+use second::encode_skipping;
+use second::format::{Format, FORMATS};
+use second::random::Random;
+use second::telegram::{cut, well_formed};
+
+/// Telegrams of each format besides those of Appendix B.
+const TELEGRAMS: usize = 12;
+
+/// Most bytes given to encode, check and read, and to search.
+const LENGTH: usize = 2200;
+const CAPTURE: usize = 7600;
+
+/// Of so many blocks that would be encoded, one is.
+const ENCODED: usize = 100;
+
+/// A share of the calls, in hundredths.
+fn share(hundredths: usize) -> usize {
+    let calls: usize = match std::env::var("BALISE_CALLS") {
+        Ok(calls) => calls.parse().expect("BALISE_CALLS is a number"),
+        Err(_) => 200_000,
+    };
+    (calls * hundredths).div_ceil(100)
+}
+
+/// A source of inputs.
+struct Inputs {
+    random: Random,
+    telegrams: Vec<Vec<u8>>,
+}
+
+impl Inputs {
+    fn new(seed: u64) -> Inputs {
+        let mut random = Random::new(seed);
+        let rows = appendix_b().into_iter().map(|row| row.telegram_bits());
+        let mut telegrams: Vec<Vec<u8>> = rows.collect();
+        for format in FORMATS {
+            telegrams.extend(random_telegrams(&mut random, format, TELEGRAMS));
+        }
+        Inputs { random, telegrams }
+    }
+
+    /// Adds telegrams that are well-formed and that a condition bars.
+    fn add_barred(&mut self) {
+        for format in FORMATS {
+            for kinds in 1..=3 {
+                let draw = |random: &mut Random| few_words(random, format, kinds);
+                let accept = |t: &[u8]| well_formed(t, format) && second::check(t).is_err();
+                self.telegrams
+                    .push(drawn(&mut self.random, format, draw, accept));
+            }
+        }
+        let draws: [(fn(&mut Random) -> Vec<u16>, u8); 2] =
+            [(repeating_words, 11), (thinning_words, 12)];
+        for (draw, number) in draws {
+            let format = Format::Long;
+            let accept = |t: &[u8]| well_formed(t, format) && second::check(t) == Err(number);
+            self.telegrams
+                .push(drawn(&mut self.random, format, draw, accept));
+        }
+    }
+
+    fn one_in(&mut self, count: usize) -> bool {
+        self.random.below(count) == 0
+    }
+
+    fn bytes(&mut self, length: usize) -> Vec<u8> {
+        (0..length).map(|_| self.random.number() as u8).collect()
+    }
+
+    fn telegram(&mut self) -> (Vec<u8>, Format) {
+        let telegram = self.telegrams[self.random.below(self.telegrams.len())].clone();
+        let format = Format::of_telegram(telegram.len()).unwrap();
+        (telegram, format)
+    }
+
+    /// A telegram, or one with other bits or another word and the check bits
+    /// put right again.
+    fn near_telegram(&mut self) -> (Vec<u8>, Format) {
+        let (telegram, format) = self.telegram();
+        let other = match self.random.below(4) {
+            0 => {
+                let count = 1 + self.random.below(22);
+                let bits = self.random.bits(count);
+                let place = self.random.below(format.telegram_bits() - 85 - count);
+                with_bits(&telegram, format, place, &bits)
+            }
+            1 => {
+                let word = other_word(&mut self.random);
+                with_word(&telegram, format, self.random.below(format.blocks()), word)
+            }
+            2 => {
+                // the settings between the shaped data and the check bits
+                let bits = self.random.bits(25);
+                with_bits(&telegram, format, format.shaped_bits(), &bits)
+            }
+            _ => telegram,
+        };
+        (other, format)
+    }
+
+    /// A telegram going round from any turn, perhaps flipped.
+    fn going_round(&mut self, (telegram, _): (Vec<u8>, Format), length: usize) -> Vec<u8> {
+        let turn = self.random.below(telegram.len());
+        let flipped = self.one_in(2);
+        cut(&telegram, turn, length, flipped)
+    }
+
+    /// Changes, insertions and deletions, or none.
+    fn damage(&mut self, list: &mut Vec<u8>) {
+        for _ in 0..[0, 0, 1, 1, 2, 5, 20][self.random.below(7)] {
+            let place = self.random.below(list.len() + 1);
+            let end = (place + 1 + self.random.below(90)).min(list.len());
+            match self.random.below(12) {
+                0..=4 if place < list.len() => list[place] ^= 1,
+                5 | 6 => list.insert(place, self.random.bits(1)[0]),
+                7 | 8 if place < list.len() => drop(list.remove(place)),
+                9 => {
+                    for bit in &mut list[place..end] {
+                        *bit ^= self.random.bits(1)[0];
+                    }
+                }
+                10 => drop(list.drain(place..end)),
+                11 if place < list.len() && self.one_in(2) => {
+                    list[place] = self.random.number() as u8;
+                }
+                _ => {}
+            }
+        }
+    }
+
+    /// A list for a call that takes these lengths: any bytes or bits of any
+    /// length, lists of about or exactly those lengths, and damaged telegrams.
+    fn list(&mut self, lengths: [usize; 2], whole: bool) -> Vec<u8> {
+        let length = lengths[self.random.below(2)];
+        let mut list = match self.random.below(10) {
+            0 => {
+                let any = self.random.below(LENGTH + 1);
+                self.bytes(any)
+            }
+            1 => {
+                let any = self.random.below(LENGTH + 1);
+                self.random.bits(any)
+            }
+            2 => {
+                let about = length - 2 + self.random.below(5);
+                self.random.bits(about)
+            }
+            3 => self.bytes(length),
+            4 => {
+                let list = patterns(length);
+                list[self.random.below(list.len())].clone()
+            }
+            5 => {
+                let any = self.random.below(LENGTH + 1);
+                let telegram = self.near_telegram();
+                self.going_round(telegram, any)
+            }
+            6 => {
+                let telegram = self.near_telegram();
+                self.going_round(telegram, length)
+            }
+            _ if whole => self.near_telegram().0,
+            _ => {
+                let telegram = self.near_telegram();
+                let length = telegram.1.window_bits();
+                self.going_round(telegram, length)
+            }
+        };
+        self.damage(&mut list);
+        // most damaged lists are given one of the lengths again
+        if list.len() > LENGTH || self.random.below(4) > 0 {
+            let near = lengths.into_iter().min_by_key(|l| l.abs_diff(list.len()));
+            let near = near.expect("two lengths");
+            if list.len().abs_diff(near) < 100 || list.len() > LENGTH {
+                list.resize(near, 0);
+            }
+        }
+        list
+    }
+
+    /// A capture: noise, telegrams going round and any bytes, end to end. Few
+    /// have zeros or telegrams that are not read, at which every place costs the
+    /// second program much.
+    fn capture(&mut self) -> Vec<u8> {
+        let length = self.random.below(CAPTURE + 1);
+        let mut capture = Vec::new();
+        while capture.len() < length {
+            let size = 1 + self.random.below(3000);
+            let mut part = match self.random.below(4000) {
+                0 => vec![self.random.bits(1)[0]; size.min(1300)],
+                1..4 => {
+                    let telegram = self.near_telegram();
+                    self.going_round(telegram, size.min(1300))
+                }
+                4..2000 => self.random.bits(size),
+                _ => {
+                    let telegram = self.telegram();
+                    self.going_round(telegram, size)
+                }
+            };
+            self.damage(&mut part);
+            capture.extend(part);
+        }
+        capture.truncate(if self.one_in(50) { CAPTURE } else { length });
+        match self.random.below(20) {
+            0 => self.bytes(length),
+            1 => capture,
+            _ => capture.iter().map(|byte| byte & 1).collect(),
+        }
+    }
+
+    /// The length of an output: any, or about the room that is needed.
+    fn room(&mut self, needed: usize) -> usize {
+        match self.random.below(4) {
+            0 => self.random.below(LENGTH + 1),
+            1 => needed - 1 + self.random.below(3),
+            2 => self.random.below(needed),
+            _ => needed + self.random.below(40),
+        }
+    }
+}
+
+/// The list at any address: some bytes into a buffer.
+fn moved(random: &mut Random, list: &[u8]) -> (Vec<u8>, usize) {
+    let at = random.below(16);
+    ([&vec![7; at], list].concat(), at)
+}
+
+#[test]
+fn encode_any_bytes() {
+    let mut inputs = Inputs::new(101);
+    let mut tally = Tally::default();
+    for _ in 0..share(25) {
+        let mut block = inputs.list([830, 210], true);
+        let format = Format::of_block(block.len());
+        let needed = format.unwrap_or(Format::Long).telegram_bits();
+        let mut room = inputs.room(needed);
+        if format.is_some() && all_bits(&block) && room >= needed && !inputs.one_in(ENCODED) {
+            if inputs.one_in(2) {
+                let place = inputs.random.below(block.len());
+                block[place] = 2 + inputs.random.below(254) as u8;
+            } else {
+                room = inputs.random.below(needed);
+            }
+        }
+        let (buffer, at) = moved(&mut inputs.random, &block);
+        let (answer, _) = encode(&mut inputs.random, encode_skipping, &buffer[at..], room);
+        tally.add(answer.map_err(|refused| refused.number));
+    }
+    tally.print("calls of encode, by number");
+    assert_eq!(tally.numbers()[..4], [0, 1, 2, 3]);
+}
+
+#[test]
+fn check_any_bytes() {
+    let mut inputs = Inputs::new(102);
+    inputs.add_barred();
+    let mut tally = Tally::default();
+    for _ in 0..share(30) {
+        let telegram = inputs.list([1023, 341], true);
+        let (buffer, at) = moved(&mut inputs.random, &telegram);
+        tally.add(check(&buffer[at..]));
+    }
+    tally.print("calls of check, by number");
+    assert_eq!(tally.numbers(), [0, 1, 2, 6, 7, 8, 9, 10, 11, 12]);
+}
+
+#[test]
+fn read_any_bytes() {
+    let mut inputs = Inputs::new(103);
+    let mut tally = Tally::default();
+    for _ in 0..share(35) {
+        let window = inputs.list([1100, 462], false);
+        let needed = Format::of_window(window.len())
+            .unwrap_or(Format::Long)
+            .user_bits();
+        let room = inputs.room(needed);
+        let (buffer, at) = moved(&mut inputs.random, &window);
+        tally.add(read(&mut inputs.random, &buffer[at..], room).0);
+    }
+    tally.print("calls of read, by number");
+    assert_eq!(tally.numbers(), [0, 1, 2, 3, 5, 6, 7, 8, 9]);
+}
+
+#[test]
+fn search_any_bytes() {
+    let mut inputs = Inputs::new(104);
+    let mut tally = Tally::default();
+    for _ in 0..share(10) {
+        let capture = inputs.capture();
+        let (buffer, at) = moved(&mut inputs.random, &capture);
+        tally.add(search(&mut inputs.random, &buffer[at..]));
+    }
+    tally.print("calls of search, by number");
+    assert_eq!(tally.numbers(), [0, 1, 2, 13]);
+}
