@@ -1,6 +1,7 @@
 /* The proved calls of crates/balise, for C and C++. Link libbalise.a, which
  * `rt staticlib balise` writes to target/staticlib/ (x86-64, System V calling
- * convention); it needs memcpy and memset of the C library.
+ * convention); it needs memcpy and memset of the C library:
+ *   cc -Iinclude prog.c target/staticlib/libbalise.a -o prog
  *
  * Bits are held one to a byte, 0 or 1, earliest sent first. A buffer is passed
  * as a pointer and a length in bytes. Every call ends, whatever the bytes and
@@ -11,9 +12,9 @@
  *   - that a pointer is valid for its length: not NULL, even with length 0, and
  *     the length at most PTRDIFF_MAX;
  *   - that an output overlaps no input;
- *   - that no other thread writes a buffer, or reads an output, during a call;
- *   - that these declarations and fields are those of the library's source,
- *     crates/balise/src/lib.rt and specs/Packed.antt. Tests compare them.
+ *   - that no other thread writes a buffer, or reads an output, during a call.
+ * That these declarations and fields are those of the library's source,
+ * crates/balise/src/lib.rt and specs/AsNumber.antt, is tested and not proved.
  */
 #ifndef BALISE_H
 #define BALISE_H
@@ -29,7 +30,8 @@ extern "C" {
  * block: 830 or 210 bits. output: at least 1023 or 341 bytes; the telegram goes
  * into its front, and the rest is kept. A refusal keeps every byte.
  * Answer: number, format, BALISE_ENCODED_B, _ESB and _COUNT.
- * Refusals: 1, 2, 3, 4. Refusal 4 has the count of pairs tried. */
+ * Refusals: 1, 2, 3, 4. Refusal 4 has the count of pairs tried.
+ * Most long blocks take some 50 milliseconds; refusal 4 takes some 10 seconds. */
 uint64_t balise_encode(const uint8_t *block, size_t block_len, uint8_t *output,
                        size_t output_len);
 

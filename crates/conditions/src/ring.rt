@@ -5,7 +5,6 @@ ghost use lib.Dec.{T};
 ghost use lib.ListN.{length};
 ghost use Rattle.bits.specs.Bits.{allBits, numberOf, around};
 ghost use Rattle.telegrams.specs.Fields.{isWord};
-use words::Lookup;
 
 // The place k after p on a ring of n.
 pub fn place_after(p: usize, k: usize, n: usize) -> usize
@@ -15,8 +14,8 @@ pub fn place_after(p: usize, k: usize, n: usize) -> usize
     if k < n - p { p + k } else { k - (n - p) }
 }
 
-// The number of the 11 bits from place p on.
-pub fn word_around(b: &[u8], p: usize) -> u16
+// The number of the 11 bits from place p on, bit by bit.
+fn word_by_bits(b: &[u8], p: usize) -> u16
     requires { ⌜ T (allBits (now b)) × (p < length (now b)) ⌝ }
     ensures { λ r. ⌜ r ≡ numberOf (around 11 p (now (b .entry))) ⌝ }
 {
@@ -31,14 +30,21 @@ pub fn word_around(b: &[u8], p: usize) -> u16
     x
 }
 
+// The number of the 11 bits from place p on. Most words do not go round the end.
+fn word_around(b: &[u8], p: usize) -> u16
+    requires { ⌜ T (allBits (now b)) × (p < length (now b)) ⌝ }
+    ensures { λ r. ⌜ r ≡ numberOf (around 11 p (now (b .entry))) ⌝ }
+{
+    if 11 <= b.len() - p {
+        return bits::number(b, p, 11) as u16;
+    }
+    word_by_bits(b, p)
+}
+
 // Whether the 11 bits from place p on are a valid word.
 pub fn is_word_at(b: &[u8], p: usize) -> bool
     requires { ⌜ T (allBits (now b)) × (p < length (now b)) ⌝ }
     ensures { λ r. ⌜ r ≡ isWord (around 11 p (now (b .entry))) ⌝ }
 {
-    let found = words::look_up(word_around(b, p));
-    match found {
-        Lookup::Number(_) => true,
-        Lookup::NotInTable => false,
-    }
+    words::in_table(word_around(b, p))
 }

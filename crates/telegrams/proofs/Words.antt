@@ -13,10 +13,10 @@ use Rattle.bits.proofs.Numbers.{numberOf-bitsOf}
 use Rattle.bits.proofs.Tests.{both-assoc}
 use Rattle.words.specs.declared.Lookup.{Lookup}
 use Rattle.words.specs.declared.Lookup.the-variants.{Number, NotInTable}
-use Rattle.words.specs.Words.{wordOf, lookupOf}
+use Rattle.words.specs.Words.{wordOf, lookupOf, isNumber}
 use Rattle.words.proofs.Rules.{word-bits}
 use Rattle.words.proofs.Numbers.{lookup-word, lookup-number}
-use Rattle.telegrams.specs.Fields.{numberIn, isNumber, isWord, allWords}
+use Rattle.telegrams.specs.Fields.{numberIn, isWord, allWords}
 
 -- ---- one word
 

@@ -10,7 +10,7 @@ use Rattle.bits.specs.Bits.{both, allBits, numberOf, bitsOf}
 use Rattle.formats.specs.Numbers.{Numbers, blocks}
 use Rattle.words.specs.declared.Lookup.{Lookup}
 use Rattle.words.specs.declared.Lookup.the-variants.{Number, NotInTable}
-use Rattle.words.specs.Words.{lookupOf}
+use Rattle.words.specs.Words.{lookupOf, inTable}
 use Rattle.scrambling.specs.Scrambling.{descrambled}
 use Rattle.scrambling.specs.Sum.{withoutSum}
 use Rattle.cyclic.specs.Check.{checkBits, same}
@@ -42,13 +42,9 @@ unshaped (suc k) b = bitsOf 10 (numberIn (lookupOf (numberOf (take 11 b)))) ++ u
 unfoldable pub userBitsOf : Numbers → List ℕ → List ℕ
 userBitsOf F b = withoutSum (blocks F) (descrambled (scramblingOf F b) (unshaped (blocks F) b))
 
-abbrev pub isNumber : Lookup → Bool
-isNumber (Number i) = true
-isNumber NotInTable = false
-
 -- the eleven bits are a word of the table
 unfoldable pub isWord : List ℕ → Bool
-isWord w = isNumber (lookupOf (numberOf w))
+isWord w = inTable (numberOf w)
 
 -- the next k words are all in the table
 unfoldable pub allWords : ℕ → List ℕ → Bool

@@ -11,7 +11,6 @@ ghost use Rattle.telegrams.specs.Fields.{controlOf, scramblingOf, shapin
 use crate::checking;
 use formats::format;
 use formats::format::Format;
-use words::Lookup;
 
 // b109 to b107.
 const CONTROL: [u8; 3] = [0, 0, 1];
@@ -25,9 +24,9 @@ pub fn all_words(s: &[u8], k: usize) -> bool
     let mut j = 0;
     while j < k {
         let word = bits::number(s, 11 * j, 11);
-        let Lookup::Number(_) = words::look_up(word as u16) else {
+        if !words::in_table(word as u16) {
             return false;
-        };
+        }
         j += 1;
     }
     true

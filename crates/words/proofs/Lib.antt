@@ -1,4 +1,5 @@
 pub mod Lists
+pub mod Arms
 pub mod Rules
 pub mod Numbers
 pub mod InverseTable

@@ -2,7 +2,6 @@
 -- with the inverse table. Assumes nothing.
 use mathlib.Core.Path.{_≡_, refl, ap, sym, _∙_, subst}
 use mathlib.Core.Bool.{Bool}
-use mathlib.Core.List.{List, [], _∷_}
 use Prim.Native.Nat.{ℕ, zero, suc, _+_, _*_, _/_, _%_, _^_, _≤_, _<_}
 use native.Mathlib.Numerals.{add-one}
 use native.Mathlib.Omega.{arith}
@@ -12,44 +11,26 @@ use lib.ListN.{getD}
 use lib.Pow.{shr-lt}
 use Rattle.bits.specs.Bits.{both}
 use Rattle.words.specs.Table.{table}
+use Rattle.words.specs.PartsOf64.{present, before}
 use Rattle.words.specs.declared.Lookup.the-variants.{Number, NotInTable}
-use Rattle.words.specs.Words.{lookupOf}
+use Rattle.words.specs.Words.{lookupOf, isNumber, inTable}
 use Rattle.bits.proofs.Both.{both-left, both-right}
 use Rattle.words.proofs.Lists.{eachFrom, each-at}
 use Rattle.words.proofs.InverseTable.{inverse, inverseFrom, inverse-length, inverse-number, inverse-none}
 
--- bit p of entry k: the word 64k + p is in the table
-unfoldable pub present : List ℕ
-present =
-    0x0000000000000000 ∷ 0x7ffffffe3ffffffe ∷ 0x7c0388700a7dd242 ∷ 0x50018c5e1403a00a ∷
-    0x7733c02c0cf1cffa ∷ 0x4a0ffff03f3fc0fe ∷ 0x74cffff031ffff36 ∷ 0x4cf3fffc3f0fcc02 ∷
-    0x600790f83f3fc032 ∷ 0x40d1fefc0ffff10e ∷ 0x7c03f8380fff9002 ∷ 0x5f33ef3c340380ee ∷
-    0x7005c0283a31f0ca ∷ 0x40cf9f500c11c03e ∷ 0x7403ff382f7ffffa ∷ 0x3ffffff000010002 ∷
-    0x400080000ffffffc ∷ 0x5ffffef41cffc02e ∷ 0x7c0388300af9f302 ∷ 0x530f8c5c1403a00e ∷
-    0x7701c02c3cf7ccfa ∷ 0x4009fff01c1fc03e ∷ 0x708ffff03f7f8b02 ∷ 0x4c03fcfc1f09e006 ∷
-    0x4033f0fc3fffcf32 ∷ 0x6cffff8c0ffff32e ∷ 0x7f03fcfc0ffff052 ∷ 0x5ff38f303403ccee ∷
-    0x5005c0287a31800a ∷ 0x424bbe500e11c03e ∷ 0x7ffffffc7ffffffe ∷ 0x0000000000000000 ∷
-    []
-
--- entry k: how many words of the table are below 64k
-unfoldable pub before : List ℕ
-before =
-    0 ∷ 0 ∷ 59 ∷ 85 ∷ 104 ∷ 138 ∷ 178 ∷ 223 ∷ 261 ∷ 290 ∷ 328 ∷ 358 ∷ 391 ∷ 415 ∷ 441 ∷ 484 ∷
-    512 ∷ 540 ∷ 583 ∷ 609 ∷ 633 ∷ 666 ∷ 696 ∷ 734 ∷ 763 ∷ 801 ∷ 846 ∷ 886 ∷ 920 ∷ 939 ∷ 965 ∷ 1024 ∷
-    []
-
--- as the code has them: the word's bit, the divisor that leaves the bits below it, those bits, and the rank
-abbrev pub bitAt : ℕ → ℕ
-bitAt w = getD present (w / 64) 0 / 2 ^ (w % 64) % 2
+-- as the code has them, where x has the bits of the word's part, and y words of the table are below the part: the word's bit, the
+-- divisor that leaves the bits below it, those bits, and the rank
+abbrev pub bitAt : ℕ → ℕ → ℕ
+bitAt x w = x / 2 ^ (w % 64) % 2
 
 abbrev pub divisor : ℕ → ℕ
 divisor w = 1 * 2 ^ (w % 64) % 2 ^ 64
 
-abbrev pub lower : ℕ → ℕ
-lower w = getD present (w / 64) 0 % divisor w
+abbrev pub lower : ℕ → ℕ → ℕ
+lower x w = x % divisor w
 
-abbrev pub rank : ℕ → ℕ
-rank w = getD before (w / 64) 0 + ones (lower w)
+abbrev pub rank : ℕ → ℕ → ℕ → ℕ
+rank x y w = y + ones (lower x w)
 
 -- the count of a number's bits, over its k lowest digits
 ones-in : (k n : ℕ) → n < 2 ^ k → ones n ≡ onesIn k n
@@ -61,22 +42,25 @@ ones-in (suc k) n h =
     ones-step n ∙ ap (λ (m : ℕ). n % 2 + m) (ones-in k (n / 2) (shr-lt k 1 (subst (λ (m : ℕ). n < 2 ^ m) (sym (add-one k)) h)))
 
 -- the same with a count that computes
-abbrev rankIn : ℕ → ℕ
-rankIn w = getD before (w / 64) 0 + onesIn 64 (lower w)
+abbrev rankIn : ℕ → ℕ → ℕ → ℕ
+rankIn x y w = y + onesIn 64 (lower x w)
 
 -- the word's entry n of the inverse table is its rank, or says that it has none
 abbrev tells : ℕ → ℕ → ℕ → Bool
 tells zero n rank = eqb n 1024
 tells (suc b) n rank = both (ltb n 1024) (eqb n rank)
 
-agrees : ℕ → ℕ → Bool
-agrees w n =
+abbrev agreesBy : ℕ → ℕ → ℕ → ℕ → Bool
+agreesBy x y w n =
     both (ltb 0 (divisor w))
-    (both (ltb (lower w) (2 ^ 64))
-    (tells (bitAt w) n (rankIn w)))
+    (both (ltb (lower x w) (2 ^ 64))
+    (tells (bitAt x w) n (rankIn x y w)))
+
+agrees : ℕ → ℕ → Bool
+agrees w n = agreesBy (getD present (w / 64) 0) (getD before (w / 64) 0) w n
 
 inverse-agrees : T (eachFrom agrees 0 inverse)
-unfolding eachFrom agrees inverse inverseFrom table present before onesIn
+unfolding eachFrom agrees inverse inverseFrom table onesIn
 inverse-agrees = tt
 
 tells-none : (b n k : ℕ) → b ≡ 0 → T (tells b n k) → n ≡ 1024
@@ -88,35 +72,48 @@ tells-number zero n k d t = absurd (d refl)
 tells-number (suc b) n k d t =
     (ltb→lt n 1024 (both-left (ltb n 1024) (eqb n k) t), eqb→eq n k (both-right (ltb n 1024) (eqb n k) t))
 
-module _ (w : ℕ) (h : w < 2048) where
-  after : T (both (ltb 0 (divisor w)) (both (ltb (lower w) (2 ^ 64)) (tells (bitAt w) (getD inverse w 0) (rankIn w))))
+module _ (w x : ℕ) (h : w < 2048) (p : x ≡ getD present (w / 64) 0) where
+  after : (y : ℕ) → y ≡ getD before (w / 64) 0 → T (agreesBy x y w (getD inverse w 0))
   unfolding agrees
-  after = each-at agrees 0 inverse inverse-agrees w w (omega arith) (omega (arith, inverse-length))
+  after y q = rw (p, q) (each-at agrees 0 inverse inverse-agrees w w (omega arith) (omega (arith, inverse-length)))
+
+  first : T (agreesBy x (getD before (w / 64) 0) w (getD inverse w 0))
+  first = after (getD before (w / 64) 0) refl
 
   pub divides : 0 < divisor w
-  divides = ltb→lt 0 (divisor w) (both-left (ltb 0 (divisor w)) _ after)
+  divides = ltb→lt 0 (divisor w) (both-left (ltb 0 (divisor w)) _ first)
 
-  rest : T (both (ltb (lower w) (2 ^ 64)) (tells (bitAt w) (getD inverse w 0) (rankIn w)))
-  rest = both-right (ltb 0 (divisor w)) _ after
+  below : lower x w < 2 ^ 64
+  below = ltb→lt (lower x w) (2 ^ 64) (both-left (ltb (lower x w) (2 ^ 64)) _ (both-right (ltb 0 (divisor w)) _ first))
 
-  pub few : ones (lower w) ≤ 64
-  few = ones-le 64 (lower w) (ltb→lt (lower w) (2 ^ 64) (both-left (ltb (lower w) (2 ^ 64)) _ rest))
+  pub few : ones (lower x w) ≤ 64
+  few = ones-le 64 (lower x w) below
 
-  last : T (tells (bitAt w) (getD inverse w 0) (rankIn w))
-  last = both-right (ltb (lower w) (2 ^ 64)) _ rest
+  last : (y : ℕ) → y ≡ getD before (w / 64) 0 → T (tells (bitAt x w) (getD inverse w 0) (rankIn x y w))
+  last y q = both-right (ltb (lower x w) (2 ^ 64)) _ (both-right (ltb 0 (divisor w)) _ (after y q))
 
-  counted : rankIn w ≡ rank w
-  counted =
-      ap (λ (m : ℕ). getD before (w / 64) 0 + m)
-      (sym (ones-in 64 (lower w) (ltb→lt (lower w) (2 ^ 64) (both-left (ltb (lower w) (2 ^ 64)) _ rest))))
+  pub rank-none : bitAt x w ≡ 0 → NotInTable ≡ lookupOf w
+  rank-none e =
+      inverse-none w h
+      (omega (arith, tells-none (bitAt x w) (getD inverse w 0) (rankIn x (getD before (w / 64) 0) w) e (last (getD before (w / 64) 0) refl)))
 
-  pub rank-small : (bitAt w ≡ 0 → ⊥) → rank w < 1024
-  rank-small d = omega (arith, counted, tells-number (bitAt w) (getD inverse w 0) (rankIn w) d last)
+  module _ (y : ℕ) (q : y ≡ getD before (w / 64) 0) (d : bitAt x w ≡ 0 → ⊥) where
+    ranked : (getD inverse w 0 < 1024) × (getD inverse w 0 ≡ rank x y w)
+    ranked =
+        let found = tells-number (bitAt x w) (getD inverse w 0) (rankIn x y w) d (last y q) in
+        (found .0, found .1 ∙ ap (λ (m : ℕ). y + m) (sym (ones-in 64 (lower x w) below)))
 
-  pub rank-number : (bitAt w ≡ 0 → ⊥) → Number (rank w) ≡ lookupOf w
-  rank-number d =
-      let r = tells-number (bitAt w) (getD inverse w 0) (rankIn w) d last in
-      ap (λ (n : ℕ). Number n) (sym (r .1 ∙ counted)) ∙ inverse-number w h (r .0)
+    pub rank-small : rank x y w < 1024
+    rank-small = omega (arith, ranked)
 
-  pub rank-none : bitAt w ≡ 0 → NotInTable ≡ lookupOf w
-  rank-none e = inverse-none w h (omega (arith, tells-none (bitAt w) (getD inverse w 0) (rankIn w) e last))
+    pub rank-number : Number (rank x y w) ≡ lookupOf w
+    rank-number = ap (λ (n : ℕ). Number n) (sym (ranked .1)) ∙ inverse-number w h (ranked .0)
+
+  -- the bit tells whether the word is in the table
+  pub bit-tells : eqb (bitAt x w) 1 ≡ inTable w
+  bit-tells = go (bitAt x w) refl
+    where
+      go : (b : ℕ) → bitAt x w ≡ b → eqb b 1 ≡ inTable w
+      go zero e = ap isNumber (rank-none e)
+      go (suc zero) e = ap isNumber (rank-number (getD before (w / 64) 0) refl (λ z. omega arith))
+      go (suc (suc b)) e = absurd (omega arith)

@@ -27,6 +27,14 @@ lookupFrom i (x ∷ xs) w = pickLookup (eqb x w) (Number i) (lookupFrom (suc i) 
 unfoldable pub lookupOf : ℕ → Lookup
 lookupOf w = lookupFrom 0 table w
 
+-- whether the word w is in the table
+abbrev pub isNumber : Lookup → Bool
+isNumber (Number i) = true
+isNumber NotInTable = false
+
+abbrev pub inTable : ℕ → Bool
+inTable w = isNumber (lookupOf w)
+
 -- at least one of two tests holds
 abbrev pub either : Bool → Bool → Bool
 either true b = true

@@ -1,7 +1,8 @@
 //! The proved calls, through their static library. Each takes what it is given
-//! and answers or refuses; nothing here panics. Nothing checks the declarations
-//! against crates/balise/src/lib.rt, nor the fields against
-//! crates/balise/specs/Packed.antt. include/balise.h declares the same for C.
+//! and answers or refuses; nothing here panics. That the declarations are those
+//! of crates/balise/src/lib.rt, and the fields those of
+//! crates/balise/specs/AsNumber.antt, is tested and not proved.
+//! include/balise.h declares the same for C.
 
 mod exported {
     unsafe extern "C" {

@@ -1,6 +1,6 @@
 //! The public calls against the second program's.
 
-use crate::{heading, line, nanoseconds, print, set, INPUTS, SETS};
+use crate::{heading, line, nanoseconds, plain, print, set, INPUTS, SETS};
 use second::format::{Format, FORMATS};
 use second::random::Random;
 use second::telegram::cut;
@@ -58,8 +58,9 @@ fn telegrams(random: &mut Random, format: Format) -> Vec<Vec<u8>> {
 
 pub fn calls() {
     println!();
-    println!("The calls; plain is the second program's. Encoding: microseconds a block, over");
-    println!("{BLOCKS} random blocks of each format, the less of {TRIES} times.");
+    println!("The calls; plain is the second program's, and of read plain Rust with the same");
+    println!("algorithm. Encoding: microseconds a block, over {BLOCKS} random blocks of each");
+    println!("format, the less of {TRIES} times.");
     println!();
     heading();
     let mut random = Random::new(2);
@@ -105,7 +106,7 @@ pub fn calls() {
             },
             |i| {
                 for telegram in set(&inputs, i) {
-                    black_box(second::check(black_box(telegram))).expect("a proper telegram");
+                    black_box(plain::check(black_box(telegram))).expect("a proper telegram");
                 }
             },
         );
@@ -133,7 +134,7 @@ pub fn calls() {
             },
             |i| {
                 for window in set(&inputs, i) {
-                    black_box(second::read(black_box(window), &mut plain_out)).expect("a reading");
+                    black_box(plain::read(black_box(window), &mut plain_out)).expect("a reading");
                     black_box(&plain_out);
                 }
             },

@@ -3,7 +3,9 @@
 
 mod calls;
 mod captures;
+mod plain;
 
+use plain::{FG, G};
 use second::cyclic;
 use second::format::Format;
 use second::random::Random;
@@ -19,54 +21,6 @@ const INPUTS: usize = 64;
 
 /// Repetitions with different inputs, so that no branch predictor learns them.
 const SETS: usize = 32;
-
-/// The polynomial with these exponents, as a constant.
-const fn polynomial(exponents: &[u32]) -> u128 {
-    let (mut sum, mut i) = (0, 0);
-    while i < exponents.len() {
-        sum ^= 1 << exponents[i];
-        i += 1;
-    }
-    sum
-}
-
-/// The product of two polynomials, as a constant.
-const fn product(one: u128, other: u128) -> u128 {
-    let (mut sum, mut i) = (0, 0);
-    while i < 64 {
-        if one >> i & 1 == 1 {
-            sum ^= other << i;
-        }
-        i += 1;
-    }
-    sum
-}
-
-const G: u128 = polynomial(Format::Long.g());
-const FG: u128 = product(polynomial(Format::Long.f()), G);
-
-/// The remainder by a divisor that the compiler knows.
-fn plain_remainder<const DIVISOR: u128>(bits: &[u8]) -> u128 {
-    let top = 1 << (127 - DIVISOR.leading_zeros());
-    let mut register = 0;
-    for &bit in bits {
-        register = register << 1 | u128::from(bit);
-        if register & top != 0 {
-            register ^= DIVISOR;
-        }
-    }
-    register
-}
-
-/// Scrambling as the layers do it: a mask, no branch.
-fn plain_scramble(b: u32, block: &[u8], out: &mut [u8]) {
-    let mut register = b.wrapping_mul(2_801_775_573);
-    for (bit, out) in block.iter().zip(out) {
-        let scrambled = register >> 31 ^ u32::from(*bit);
-        register = register << 1 ^ 0u32.wrapping_sub(scrambled) & 0xea00_0001;
-        *out = scrambled as u8;
-    }
-}
 
 /// Random bits for every set of inputs.
 fn inputs(random: &mut Random, length: usize) -> Vec<Vec<u8>> {
@@ -125,6 +79,10 @@ fn main() {
     captures::captures();
 }
 
+/// A division of the layers, and one of plain Rust.
+type Ours = fn(bool, &[u8], &mut [u64]);
+type Plain = fn(&[u8]) -> u128;
+
 fn layers() {
     let mut random = Random::new(1);
     let telegrams = inputs(&mut random, Format::Long.telegram_bits());
@@ -136,49 +94,41 @@ fn layers() {
     println!("cleared before the first call only, for both.");
     println!();
     heading();
-    let mut by_g = |i| {
-        for bits in set(&telegrams, i) {
-            layers::remainder_g(true, black_box(bits), &mut two_words);
-            black_box(&two_words);
-        }
-    };
     let variable = |divisor: u128, i: usize| {
         for bits in set(&telegrams, i) {
             black_box(cyclic::remainder(black_box(bits), black_box(divisor)));
         }
     };
-    let name = "remainder of 1,023 bits by g";
-    line(name, INPUTS, "at most 1.5", &mut by_g, |i| variable(G, i));
-    line(
-        "  divisor a constant",
-        INPUTS,
-        "at most 1.5",
-        &mut by_g,
-        |i| {
-            for bits in set(&telegrams, i) {
-                black_box(plain_remainder::<G>(black_box(bits)));
-            }
-        },
-    );
-    let mut by_fg = |i| {
+    let constant = |plain: Plain, i: usize| {
         for bits in set(&telegrams, i) {
-            layers::remainder_fg(true, black_box(bits), &mut two_words);
-            black_box(&two_words);
+            black_box(plain(black_box(bits)));
         }
     };
-    let name = "remainder of 1,023 bits by f*g";
-    line(name, INPUTS, "at most 1.5", &mut by_fg, |i| variable(FG, i));
-    line(
-        "  divisor a constant",
-        INPUTS,
-        "at most 1.5",
-        &mut by_fg,
-        |i| {
+    let divisions = [
+        (
+            "g",
+            layers::remainder_g as Ours,
+            G,
+            plain::remainder::<G> as Plain,
+        ),
+        ("f*g", layers::remainder_fg, FG, plain::remainder::<FG>),
+    ];
+    for (name, division, divisor, plain) in divisions {
+        let mut ours = |i| {
             for bits in set(&telegrams, i) {
-                black_box(plain_remainder::<FG>(black_box(bits)));
+                division(true, black_box(bits), &mut two_words);
+                black_box(&two_words);
             }
-        },
-    );
+        };
+        let name = format!("remainder of 1,023 bits by {name}");
+        line(&name, INPUTS, "at most 1.5", &mut ours, |i| {
+            variable(divisor, i)
+        });
+        let name = "  divisor a constant";
+        line(name, INPUTS, "at most 1.5", &mut ours, |i| {
+            constant(plain, i)
+        });
+    }
     line(
         "look-up of a word, all 2,048 words",
         2048,
@@ -207,7 +157,7 @@ fn layers() {
         },
         |i| {
             for (b, block) in set(&blocks, i).iter().enumerate() {
-                plain_scramble(black_box(b as u32), black_box(block), &mut plain_out);
+                plain::scramble(black_box(b as u32), black_box(block), &mut plain_out);
                 black_box(&plain_out);
             }
         },

@@ -1,7 +1,9 @@
 //! Conditions 2, 3 and 4 on made bits: runs of table words at and over each
 //! limit, and bits that repeat after a third of the telegram.
 
-use second::conditions::{condition_2, condition_3, condition_4, off_step_limit, THINNED_RUN};
+use second::conditions::{
+    condition_2, condition_3, condition_4, off_step_limit, unthinned, THINNED_RUN,
+};
 use second::format::{Format, FORMATS};
 use second::random::Random;
 use second::{bits, words};
@@ -22,16 +24,6 @@ fn ring_with_run(random: &mut Random, format: Format, p: usize, run: usize) -> V
         }
     }
     ring
-}
-
-/// The telegram whose thinning by 2^k is v: b(j * 2^k) = v(j).
-fn thickened(v: &[u8], k: u32) -> Vec<u8> {
-    let n = v.len();
-    let mut telegram = vec![0; n];
-    for j in 0..n {
-        telegram[n - 1 - (j << k) % n] = v[n - 1 - j];
-    }
-    telegram
 }
 
 #[test]
@@ -82,7 +74,7 @@ fn condition_4_agrees_at_its_limit() {
                 for run in [THINNED_RUN - 1, THINNED_RUN, THINNED_RUN + 1] {
                     let place = alignment + 11 * random.below(format.words());
                     let v = ring_with_run(&mut random, format, place, run);
-                    let telegram = thickened(&v, k);
+                    let telegram = unthinned(&v, k);
                     let expected = condition_4(&telegram);
                     assert_eq!(layers::thinned_out(long(format), &telegram), expected);
                     within += usize::from(run == THINNED_RUN && expected);

@@ -106,6 +106,16 @@ pub fn thinned(telegram: &[u8], k: u32) -> Vec<u8> {
         .collect()
 }
 
+/// The telegram that, thinned 2^k times, is v.
+pub fn unthinned(v: &[u8], k: u32) -> Vec<u8> {
+    let n = v.len();
+    let mut telegram = vec![0; n];
+    for j in 0..n {
+        telegram[n - 1 - (j << k) % n] = v[n - 1 - j];
+    }
+    telegram
+}
+
 /// The longest run round the ring of words of the telegram thinned 2^k times,
 /// the words cut `alignment` bits after v(n-1).
 pub fn thinned_run(telegram: &[u8], k: u32, alignment: usize) -> usize {

@@ -169,16 +169,6 @@ fn period_distances() {
     assert!(!condition_3(&[0; 1023], Format::Long));
 }
 
-/// n bits that, thinned 2^k times, are this list.
-fn unthinned(v: &[u8], k: u32) -> Vec<u8> {
-    let n = v.len();
-    let mut telegram = vec![0; n];
-    for j in 0..n {
-        telegram[n - 1 - (j << k) % n] = v[n - 1 - j];
-    }
-    telegram
-}
-
 #[test]
 fn thinned_runs() {
     let mut random = Random::new(15);

@@ -1,5 +1,5 @@
 -- `scrambling::remove_sum` meets its contract, by those of `number`, `sum_of_blocks` and `write_number`. Assumes nothing.
-use mathlib.Core.Path.{_≡_, sym, ap, ap₂, _∙_}
+use mathlib.Core.Path.{_≡_, ap, ap₂, _∙_}
 use mathlib.Core.List.{List}
 use Prim.Native.Nat.{ℕ, _+_, _-_, _/_, _%_}
 use native.Mathlib.Omega.{arith}
@@ -7,7 +7,7 @@ use borrow.Author.Needs.{needs}
 use lib.ListN.{length, take, drop, length-take, length-drop}
 use lib.Seq.{take-all}
 use Rattle.bits.proofs.AllBits.{allBits-drop}
-use Rattle.scrambling.specs.Sum.{withFirstBlock, sumOfBlocks, sumOfOthers, withoutSum}
+use Rattle.scrambling.specs.Sum.{firstBlock, withFirstBlock, sumOfBlocks, sumOfOthers, withoutSum}
 use Rattle.scrambling.proofs.BlockSum.{firstBlock-below}
 use Rattle.scrambling.proofs.remove_sum.Statement.{statement}
 use Rattle.scrambling.proofs.remove_sum.Tie as tie
@@ -54,15 +54,19 @@ write-number-requires c κs = search needs
 same-length : tie.Need-same-length
 same-length c = search needs
 
-returns : tie.Need-returns
+-- the first block replaced by x is the undoing, if x is the number of the definition
+undone : (k x : ℕ) (u v : List ℕ) → v ≡ withFirstBlock x u → x ≡ (firstBlock u + (1024 - sumOfOthers k u % 1024)) % 1024 → v ≡ withoutSum k u
 unfolding withoutSum
+undone k x u v e n = e ∙ ap (λ (y : ℕ). withFirstBlock y u) n
+
+returns : tie.Need-returns
 returns c =
     let written = c .before .before in
     let summed = written .before .before in
     let first = summed .before .before .before in
     let block = first .before .before .before .args .block .now in
-    written .write-number .ensures
-    ∙ ap₂ (λ (a b : ℕ). withFirstBlock ((a + (1024 - b % 1024)) % 1024) block) (first .number .ensures) (summed .sum-of-blocks .ensures ∙ sum-of-others block)
+    undone (length block / 10) _ block _ (written .write-number .ensures)
+    (ap₂ (λ (a b : ℕ). (a + (1024 - b % 1024)) % 1024) (first .number .ensures) (summed .sum-of-blocks .ensures ∙ sum-of-others block))
 
 pub remove-sum-spec : {M : Type 1} → statement M
 remove-sum-spec =

@@ -11,8 +11,8 @@ use Rattle.bits.specs.Bits.{both, numberOf, bitsOf}
 use Rattle.bits.proofs.AllBits.{allBits-drop}
 use Rattle.bits.proofs.Parts.{front-below}
 use Rattle.bits.proofs.Tests.{fails}
-use Rattle.words.specs.Words.{lookupOf}
-use Rattle.telegrams.specs.Fields.{numberIn, isNumber, isWord, allWords, unshaped}
+use Rattle.words.specs.Words.{lookupOf, isNumber}
+use Rattle.telegrams.specs.Fields.{numberIn, isWord, allWords, unshaped}
 use Rattle.telegrams.proofs.Shaping.{length-unshaped}
 use Rattle.telegrams.proofs.Buffers.Blocks.{words-more, words-done}
 use Rattle.telegrams.proofs.Buffers.Fronts.{lent-is, front-more}

@@ -5,12 +5,13 @@ use mathlib.Core.Bool.{Bool}
 use Prim.Native.Nat.{ℕ, _+_, _*_, _-_, _≤_}
 use native.Mathlib.Omega.{arith}
 use borrow.Author.Needs.{needs}
+use borrow.Author.Tests.{not-true, not-false}
 use lib.ListN.{take, drop}
 use Rattle.bits.specs.Bits.{both}
 use Rattle.bits.proofs.AllBits.{allBits-drop}
 use Rattle.bits.proofs.Parts.{front-below}
-use Rattle.words.specs.Words.{lookupOf}
-use Rattle.telegrams.specs.Fields.{isNumber, isWord, allWords}
+use Rattle.words.specs.Words.{inTable}
+use Rattle.telegrams.specs.Fields.{isWord, allWords}
 use Rattle.telegrams.proofs.Buffers.Blocks.{words-more, words-done}
 use Rattle.telegrams.proofs.fields.all_words.Statement.{statement}
 use Rattle.telegrams.proofs.fields.all_words.Tie as tie
@@ -30,36 +31,33 @@ mul-number c = omega arith
 number-requires : tie.Need-number-requires Inv-loop μ-loop
 number-requires c κs = (omega arith, (omega arith, c .before .before .before .pre .0))
 
-cast-look-up : tie.Need-cast-look-up Inv-loop μ-loop
-cast-look-up c =
+cast-in-table : tie.Need-cast-in-table Inv-loop μ-loop
+cast-in-table c =
     let start = c .before .before .before .before in
     let s = start .args .s .now in
     let at = 11 * c .before .before .loop .j in
     omega (arith, c .number .ensures, front-below 11 (drop at s) (allBits-drop at s (start .pre .0)))
 
-look-up-requires : tie.Need-look-up-requires Inv-loop μ-loop
-look-up-requires c κs = search needs
+in-table-requires : tie.Need-in-table-requires Inv-loop μ-loop
+in-table-requires c κs = search needs
 
--- what was found says whether the next word is in the table
-next : (c : tie.After-look-up Inv-loop μ-loop)
-    → isWord (take 11 (drop (11 * c .before .before .before .loop .j) (c .before .before .before .before .before .args .s .now))) ≡ isNumber (c .look-up .result)
+-- the test of the words from the next on, by what was found of the next
+next : (c : tie.After-in-table Inv-loop μ-loop) (t : Bool) → c .in-table .result ≡ t →
+    let l = c .before .before .before in
+    let a = l .before .before .args in
+    let j = l .loop .j in
+    allWords (a .k) (a .s .now) ≡ both t (allWords (a .k - (j + 1)) (drop (11 * (j + 1)) (a .s .now)))
 unfolding isWord
-next c = sym (ap isNumber (c .look-up .ensures ∙ ap lookupOf (c .before .number .ensures)))
-
-enum-told : tie.Need-enum-told Inv-loop μ-loop
-enum-told c = search needs
-
-enum-told-2 : tie.Need-enum-told-2 Inv-loop μ-loop
-enum-told-2 c = search needs
-
-returns : tie.Need-returns Inv-loop μ-loop
-returns c =
-    let l = c .before .before .before .before .before in
+next c t e =
+    let l = c .before .before .before in
     let a = l .before .before .args in
     let j = l .loop .j in
     let others = allWords (a .k - (j + 1)) (drop (11 * (j + 1)) (a .s .now)) in
-    sym (l .loop .inv .1 ∙ words-more (a .k) j (a .s .now) (omega arith)
-    ∙ ap (λ (t : Bool). both t others) (next (c .before .before) ∙ ap isNumber (c .enum-told2 .given .1)))
+    l .loop .inv .1 ∙ words-more (a .k) j (a .s .now) (omega arith)
+    ∙ ap (λ (w : Bool). both w others) (sym (c .in-table .ensures ∙ ap inTable (c .before .number .ensures)) ∙ e)
+
+returns : tie.Need-returns Inv-loop μ-loop
+returns c = sym (next (c .before) _ (not-true _ (c .if1 .taken)))
 
 add-j : tie.Need-add-j Inv-loop μ-loop
 add-j c = omega arith
@@ -68,15 +66,7 @@ loop-less : tie.Need-loop-less Inv-loop μ-loop
 loop-less c = omega arith
 
 loop-again : tie.Need-loop-again Inv-loop μ-loop
-loop-again c =
-    let l = c .before .before .before .before .before in
-    let a = l .before .before .args in
-    let j = l .loop .j in
-    let others = allWords (a .k - (j + 1)) (drop (11 * (j + 1)) (a .s .now)) in (
-      omega arith,
-      l .loop .inv .1 ∙ words-more (a .k) j (a .s .now) (omega arith)
-          ∙ ap (λ (t : Bool). both t others) (next (c .before .before) ∙ ap isNumber (c .enum-told .given .1)),
-    )
+loop-again c = (omega arith, next (c .before) _ (not-false _ (c .if1 .left)))
 
 returns-2 : tie.Need-returns-2 Inv-loop μ-loop
 returns-2 c =
@@ -93,10 +83,8 @@ all-words-spec =
     loop-holds
     mul-number
     number-requires
-    cast-look-up
-    look-up-requires
-    enum-told
-    enum-told-2
+    cast-in-table
+    in-table-requires
     returns
     add-j
     loop-less

@@ -1,0 +1,309 @@
+//! Plain Rust with the algorithms of the proved code, written for speed: no
+//! branch on a bit, divisors that the compiler knows, no heap.
+
+use second::conditions::{off_step_limit, THINNED_RUN};
+use second::format::Format;
+use second::telegram::CONTROL;
+use second::words;
+use second::{refusal, Reading};
+use std::sync::LazyLock;
+
+/// The number that B is multiplied by, and the taps of the register
+/// (document 01, "Scrambling").
+const FACTOR: u32 = 2_801_775_573;
+const TAPS: u32 = 0xea00_0001;
+
+/// The polynomial with these exponents, as a constant.
+const fn polynomial(exponents: &[u32]) -> u128 {
+    let (mut sum, mut i) = (0, 0);
+    while i < exponents.len() {
+        sum ^= 1 << exponents[i];
+        i += 1;
+    }
+    sum
+}
+
+/// The product of two polynomials, as a constant.
+const fn product(one: u128, other: u128) -> u128 {
+    let (mut sum, mut i) = (0, 0);
+    while i < 64 {
+        if one >> i & 1 == 1 {
+            sum ^= other << i;
+        }
+        i += 1;
+    }
+    sum
+}
+
+const F: u128 = polynomial(Format::Long.f());
+pub const G: u128 = polynomial(Format::Long.g());
+pub const FG: u128 = product(F, G);
+const SHORT_F: u128 = polynomial(Format::Short.f());
+const SHORT_G: u128 = polynomial(Format::Short.g());
+
+/// The remainder by a divisor that the compiler knows.
+pub fn remainder<const DIVISOR: u128>(bits: &[u8]) -> u128 {
+    let top = 1 << (127 - DIVISOR.leading_zeros());
+    let mut register = 0;
+    for &bit in bits {
+        register = register << 1 | u128::from(bit);
+        if register & top != 0 {
+            register ^= DIVISOR;
+        }
+    }
+    register
+}
+
+/// The remainder by f, whose register is one small number.
+fn remainder_by_f<const F: u128>(bits: &[u8]) -> u32 {
+    bits.iter()
+        .fold(0, |register, &bit| step::<F>(register, u32::from(bit)))
+}
+
+fn step<const F: u128>(register: u32, bit: u32) -> u32 {
+    let shifted = register << 1 | bit;
+    shifted ^ 0u32.wrapping_sub(shifted >> 10) & F as u32
+}
+
+/// The turn whose remainder by f this is.
+fn turn<const F: u128, const G: u128>(n: usize, remainder: u32) -> Option<usize> {
+    let mut turned = const { reduced(G, F) };
+    for turn in 0..n {
+        if turned == remainder {
+            return Some(turn);
+        }
+        turned = step::<F>(turned, 0);
+    }
+    None
+}
+
+/// The remainder of a polynomial by f, as a constant.
+const fn reduced(mut polynomial: u128, f: u128) -> u32 {
+    while polynomial >> 10 != 0 {
+        polynomial ^= f << (f.leading_zeros() - polynomial.leading_zeros());
+    }
+    polynomial as u32
+}
+
+/// Scrambling.
+pub fn scramble(b: u32, block: &[u8], out: &mut [u8]) {
+    let mut register = b.wrapping_mul(FACTOR);
+    for (bit, out) in block.iter().zip(out) {
+        let scrambled = register >> 31 ^ u32::from(*bit);
+        register = register << 1 ^ 0u32.wrapping_sub(scrambled) & TAPS;
+        *out = scrambled as u8;
+    }
+}
+
+fn descramble(b: u32, scrambled: &[u8], out: &mut [u8]) {
+    let mut register = b.wrapping_mul(FACTOR);
+    for (bit, out) in scrambled.iter().zip(out) {
+        let bit = u32::from(*bit);
+        *out = (register >> 31 ^ bit) as u8;
+        register = register << 1 ^ 0u32.wrapping_sub(bit) & TAPS;
+    }
+}
+
+fn number(bits: &[u8]) -> u32 {
+    bits.iter()
+        .fold(0, |number, &bit| number << 1 | u32::from(bit))
+}
+
+fn write_number(number: u32, out: &mut [u8]) {
+    let width = out.len();
+    for (place, out) in out.iter_mut().enumerate() {
+        *out = (number >> (width - 1 - place) & 1) as u8;
+    }
+}
+
+/// The first block: the replaced one minus the others.
+fn remove_sum(out: &mut [u8]) {
+    let (first, others) = out.split_at_mut(10);
+    let sum: u32 = others.chunks_exact(10).map(number).sum();
+    write_number(number(first).wrapping_sub(sum) & 1023, first);
+}
+
+/// What stands in `NUMBERS` for a word that is not in the table.
+const NO_NUMBER: u16 = u16::MAX;
+
+/// The number of each of the 2,048 words.
+static NUMBERS: LazyLock<[u16; 2048]> = LazyLock::new(|| {
+    let mut numbers = [NO_NUMBER; 2048];
+    for i in 0..1024 {
+        numbers[usize::from(words::word(i))] = i;
+    }
+    numbers
+});
+
+/// Reads a window, as the second program's `read`.
+pub fn read(window: &[u8], output: &mut [u8]) -> Result<Reading, u8> {
+    match Format::of_window(window.len()).ok_or(refusal::LENGTH)? {
+        Format::Long => read_as::<F, G>(Format::Long, window, output),
+        Format::Short => read_as::<SHORT_F, SHORT_G>(Format::Short, window, output),
+    }
+}
+
+fn read_as<const F: u128, const G: u128>(
+    format: Format,
+    window: &[u8],
+    output: &mut [u8],
+) -> Result<Reading, u8> {
+    if window.iter().any(|&byte| byte > 1) {
+        return Err(refusal::NOT_A_BIT);
+    }
+    let output = output
+        .get_mut(..format.user_bits())
+        .ok_or(refusal::OUTPUT)?;
+    let (turned, extra) = window.split_at(format.telegram_bits());
+    if extra != &turned[..format.extra_bits()] {
+        return Err(refusal::SEAM);
+    }
+    if remainder::<G>(turned) != 0 {
+        return Err(refusal::PARITY);
+    }
+    let turn = turn::<F, G>(turned.len(), remainder_by_f::<F>(turned)).ok_or(refusal::TURN)?;
+    let mut telegram = [0; Format::Long.telegram_bits()];
+    let telegram = &mut telegram[..turned.len()];
+    let (front, back) = turned.split_at(turned.len() - turn);
+    telegram[..turn].copy_from_slice(back);
+    telegram[turn..].copy_from_slice(front);
+    let flipped = telegram[format.shaped_bits()] == 1;
+    if flipped {
+        telegram.iter_mut().for_each(|bit| *bit = 1 - *bit);
+    }
+    let b = user_bits(format, telegram, output)?;
+    Ok(Reading {
+        format,
+        b,
+        turn,
+        flipped,
+    })
+}
+
+/// Writes the user bits of a telegram and gives its scrambling bits, or
+/// refusal 8 or 9.
+fn user_bits(format: Format, telegram: &[u8], output: &mut [u8]) -> Result<u16, u8> {
+    let (_, fields) = telegram.split_at(format.shaped_bits());
+    if fields[..3] != CONTROL {
+        return Err(refusal::CONTROL);
+    }
+    let mut scrambled = [0; 10 * Format::Long.words()];
+    for (word, ten) in telegram
+        .chunks_exact(11)
+        .zip(scrambled.chunks_exact_mut(10))
+    {
+        let found = NUMBERS[number(word) as usize];
+        if found == NO_NUMBER {
+            return Err(refusal::WORD);
+        }
+        write_number(found.into(), ten);
+    }
+    let b = number(&fields[3..15]);
+    descramble(b, &scrambled[..format.user_bits()], output);
+    remove_sum(output);
+    Ok(b as u16)
+}
+
+/// The place after another on a ring of n, by at most n.
+fn place_after(place: usize, by: usize, n: usize) -> usize {
+    let sum = place + by;
+    if sum < n {
+        sum
+    } else {
+        sum - n
+    }
+}
+
+/// Whether the eleven bits from a place on, going round, are in the table.
+fn is_word(bits: &[u8], place: usize) -> bool {
+    let (mut word, mut at) = (0, place);
+    for _ in 0..11 {
+        word = word << 1 | usize::from(bits[at]);
+        at = place_after(at, 1, bits.len());
+    }
+    NUMBERS[word] != NO_NUMBER
+}
+
+/// The longest run of table words among `count` from a place on, going round.
+fn longest_run(bits: &[u8], place: usize, count: usize) -> usize {
+    let (mut longest, mut run, mut at) = (0, 0, place);
+    for _ in 0..count {
+        if is_word(bits, at) {
+            run += 1;
+        } else {
+            longest = longest.max(run);
+            run = 0;
+        }
+        at = place_after(at, 11, bits.len());
+    }
+    longest.max(run)
+}
+
+/// The places in which 22 bits from one place and from another differ.
+fn differing(bits: &[u8], place: usize, by: usize) -> usize {
+    let (mut at, mut other) = (place, place_after(place, by, bits.len()));
+    let mut count = 0;
+    for _ in 0..22 {
+        count += usize::from(bits[at] != bits[other]);
+        at = place_after(at, 1, bits.len());
+        other = place_after(other, 1, bits.len());
+    }
+    count
+}
+
+fn condition_3(format: Format, telegram: &[u8]) -> bool {
+    format == Format::Short
+        || (0..telegram.len()).step_by(11).all(|place| {
+            differing(telegram, place, 341) >= 3
+                && [338, 339, 340, 342, 343, 344]
+                    .iter()
+                    .all(|&by| differing(telegram, place, by) >= 2)
+        })
+}
+
+/// Condition 4. Every run round a ring is on the ring walked twice.
+fn condition_4(format: Format, telegram: &[u8]) -> bool {
+    let n = telegram.len();
+    (1..=4).all(|k| {
+        let mut thinned = [0; Format::Long.telegram_bits()];
+        for (j, bit) in thinned[..n].iter_mut().rev().enumerate() {
+            *bit = telegram[n - 1 - (j << k) % n];
+        }
+        (0..11).all(|at| longest_run(&thinned[..n], at, 2 * format.words()) <= THINNED_RUN)
+    })
+}
+
+/// Checks a telegram, as the second program's `check`.
+pub fn check(telegram: &[u8]) -> Result<Format, u8> {
+    match Format::of_telegram(telegram.len()).ok_or(refusal::LENGTH)? {
+        Format::Long => check_as::<F, G>(Format::Long, telegram),
+        Format::Short => check_as::<SHORT_F, SHORT_G>(Format::Short, telegram),
+    }
+}
+
+fn check_as<const F: u128, const G: u128>(format: Format, telegram: &[u8]) -> Result<Format, u8> {
+    if telegram.iter().any(|&byte| byte > 1) {
+        Err(refusal::NOT_A_BIT)
+    } else if remainder::<G>(telegram) != 0 {
+        Err(refusal::PARITY)
+    } else if remainder_by_f::<F>(telegram) != const { reduced(G, F) } {
+        Err(refusal::TURN)
+    } else if telegram[format.shaped_bits()..][..3] != CONTROL {
+        Err(refusal::CONTROL)
+    } else if (0..telegram.len())
+        .step_by(11)
+        .any(|place| !is_word(telegram, place))
+    {
+        Err(refusal::WORD)
+    } else if (1..=10)
+        .any(|p| longest_run(telegram, p, format.words() - 1) > off_step_limit(p, format))
+    {
+        Err(refusal::OFF_STEP)
+    } else if !condition_3(format, telegram) {
+        Err(refusal::PERIOD)
+    } else if !condition_4(format, telegram) {
+        Err(refusal::THINNED)
+    } else {
+        Ok(format)
+    }
+}
