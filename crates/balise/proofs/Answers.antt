@@ -1,5 +1,5 @@
--- What the calls answer fits the fields of the packed answer: B has twelve bits, esb and a turn have ten, a count has 23,
--- and a place is at most 7,500.
+-- What the calls answer fits the fields of the number: B has twelve bits, esb and a turn have ten, a count has 23,
+-- and a place is within the limit.
 -- Assumes nothing.
 use mathlib.Core.Path.{_≡_, refl, sym, ap}
 use mathlib.Core.Bool.{Bool, true, false}
@@ -34,10 +34,10 @@ use Rattle.reader.proofs.Accepted.{accepted-passed}
 use Rattle.reader.proofs.Parts.Found.{bits-found}
 use Rattle.captures.specs.declared.Capture.{Capture}
 use Rattle.captures.specs.declared.Capture.the-variants.{Found, Refused as NotFound}
-use Rattle.captures.specs.Captures.{windowAt, searchOf}
+use Rattle.captures.specs.Captures.{captureLimit, windowAt, searchOf}
 use Rattle.captures.proofs.Attempts.{zeros, zeros-room}
 use Rattle.captures.proofs.FirstPlace.{searches}
-use Rattle.balise.specs.Packed.{turnIn, turnFound, placeFound}
+use Rattle.balise.specs.AsNumber.{turnIn, turnFound, placeFound}
 
 -- ---- encode
 
@@ -118,7 +118,7 @@ turn-fits w out o (NotRead refusal) e = omega arith
 -- ---- search
 
 -- the reading and the place that search finds
-pub found-fits : (s : List ℕ) (p : ℕ) (reading : Reading) → searchOf s ≡ Found p reading → ReadingFits reading × (p ≤ 7500)
+pub found-fits : (s : List ℕ) (p : ℕ) (reading : Reading) → searchOf s ≡ Found p reading → ReadingFits reading × (p ≤ captureLimit)
 found-fits s p reading e =
     let known = searches s .finds p reading .0 e in
     let w = windowAt (reading .format) s p in
@@ -128,7 +128,7 @@ found-fits s p reading e =
     )
 
 -- whatever search answers
-pub search-fits : (s : List ℕ) (answer : Capture) → answer ≡ searchOf s → (turnFound answer < 1024) × (placeFound answer ≤ 7500)
+pub search-fits : (s : List ℕ) (answer : Capture) → answer ≡ searchOf s → (turnFound answer < 1024) × (placeFound answer ≤ captureLimit)
 search-fits s (Found p reading) e =
     let fits = found-fits s p reading (sym e) in
     (fits .0 .turn, fits .1)

@@ -1,4 +1,4 @@
--- Every field of a packed answer can be read back: the number and the values that document 01 gives are those of the call's answer.
+-- Every field of an answer as a number can be read back: the number and the values that document 01 gives are those of the call's answer.
 -- Assumes nothing.
 use mathlib.Core.Path.{_≡_}
 use mathlib.Core.Bool.{Bool, true, false}
@@ -20,14 +20,15 @@ use Rattle.reader.specs.declared.ReadAnswer.the-variants.{Read, Refused as NotR
 use Rattle.reader.specs.Reads.{readOf}
 use Rattle.captures.specs.declared.Capture.the-variants.{Found, Refused as NotFound}
 use Rattle.captures.specs.Captures.{searchOf}
-use Rattle.balise.specs.Packed.{formatBit, flippedBit, encodedFields, readFields, searchFields, packedEncoded, packedChecked, packedRead, packedSearch}
+use Rattle.formats.specs.AnswerValues.{formatNumber, flippedNumber}
+use Rattle.balise.specs.AsNumber.{encodedFields, readFields, searchFields, encodedAsNumber, checkedAsNumber, readAsNumber, captureAsNumber}
 use Rattle.balise.proofs.Answers.{EncodedFits, encoded-fits, reading-fits, found-fits}
 
-format-fits : (format : Format) → formatBit format < 2
+format-fits : (format : Format) → formatNumber format < 2
 format-fits Long = omega arith
 format-fits Short = omega arith
 
-flipped-fits : (flipped : Bool) → flippedBit flipped < 2
+flipped-fits : (flipped : Bool) → flippedNumber flipped < 2
 flipped-fits true = omega arith
 flipped-fits false = omega arith
 
@@ -70,13 +71,13 @@ encoded-back number format B esb tried n f b e t =
 
 module _ (u out : List ℕ) where
   pub pair-back : (format : Format) (B esb tried : ℕ) → encodeOf u out .answer ≡ Pair format B esb tried
-      → EncodedBack (packedEncoded (encodeOf u out .answer)) 0 (formatBit format) B esb tried
+      → EncodedBack (encodedAsNumber (encodeOf u out .answer)) 0 (formatNumber format) B esb tried
   pair-back format B esb tried e =
       let fits : EncodedFits (Pair format B esb tried) = rw e at (encoded-fits u out) in
-      rw e (encoded-back 0 (formatBit format) B esb tried (omega arith) (format-fits format) (fits .0) (fits .1) (omega arith))
+      rw e (encoded-back 0 (formatNumber format) B esb tried (omega arith) (format-fits format) (fits .0) (fits .1) (omega arith))
 
   pub encode-refusal-back : (refusal : Refusal) → encodeOf u out .answer ≡ NotEncoded refusal
-      → EncodedBack (packedEncoded (encodeOf u out .answer)) (refusalNumber refusal) 0 0 0 (triedCount refusal)
+      → EncodedBack (encodedAsNumber (encodeOf u out .answer)) (refusalNumber refusal) 0 0 0 (triedCount refusal)
   encode-refusal-back refusal e =
       let fits : EncodedFits (NotEncoded refusal) = rw e at (encoded-fits u out) in
       rw e
@@ -91,10 +92,10 @@ pub record CheckedBack (p number format : ℕ) : Type 0 where
   pub format-is : p / 256 ≡ format
 
 module _ (b : List ℕ) where
-  pub proper-back : (format : Format) → checkOf b ≡ Proper format → CheckedBack (packedChecked (checkOf b)) 0 (formatBit format)
+  pub proper-back : (format : Format) → checkOf b ≡ Proper format → CheckedBack (checkedAsNumber (checkOf b)) 0 (formatNumber format)
   proper-back format e = rw e (record { number-is = omega (arith, format-fits format); format-is = omega arith })
 
-  pub check-refusal-back : (refusal : Refusal) → checkOf b ≡ NotProper refusal → CheckedBack (packedChecked (checkOf b)) (refusalNumber refusal) 0
+  pub check-refusal-back : (refusal : Refusal) → checkOf b ≡ NotProper refusal → CheckedBack (checkedAsNumber (checkOf b)) (refusalNumber refusal) 0
   check-refusal-back refusal e =
       let fits = number-fits refusal .1 in
       rw e (record { number-is = omega arith; format-is = omega arith })
@@ -122,18 +123,18 @@ fields-back number format flipped B turn n f l b t =
 
 module _ (w out o : List ℕ) where
   pub reading-back : (reading : Reading) → readOf w out ≡ outcome (Read reading) o
-      → ReadBack (packedRead (readOf w out .answer)) 0 (formatBit (reading .format)) (flippedBit (reading .flipped)) (reading .scrambling) (reading .turn)
+      → ReadBack (readAsNumber (readOf w out .answer)) 0 (formatNumber (reading .format)) (flippedNumber (reading .flipped)) (reading .scrambling) (reading .turn)
   reading-back reading e =
       let fits = reading-fits w out o reading e in
       rw e
-      (fields-back 0 (formatBit (reading .format)) (flippedBit (reading .flipped)) (reading .scrambling) (reading .turn) (omega arith)
+      (fields-back 0 (formatNumber (reading .format)) (flippedNumber (reading .flipped)) (reading .scrambling) (reading .turn) (omega arith)
       (format-fits (reading .format))
       (flipped-fits (reading .flipped))
       (fits .scrambling)
       (fits .turn))
 
   pub read-refusal-back : (refusal : Refusal) → readOf w out ≡ outcome (NotRead refusal) o
-      → ReadBack (packedRead (readOf w out .answer)) (refusalNumber refusal) 0 0 0 0
+      → ReadBack (readAsNumber (readOf w out .answer)) (refusalNumber refusal) 0 0 0 0
   read-refusal-back refusal e =
       rw e (fields-back (refusalNumber refusal) 0 0 0 0 (number-fits refusal .1) (omega arith) (omega arith) (omega arith) (omega arith))
 
@@ -162,18 +163,18 @@ search-back number format flipped B turn place n f l b t =
 
 module _ (s : List ℕ) where
   pub found-back : (place : ℕ) (reading : Reading) → searchOf s ≡ Found place reading
-      → SearchBack (packedSearch (searchOf s)) 0 (formatBit (reading .format)) (flippedBit (reading .flipped)) (reading .scrambling) (reading .turn) place
+      → SearchBack (captureAsNumber (searchOf s)) 0 (formatNumber (reading .format)) (flippedNumber (reading .flipped)) (reading .scrambling) (reading .turn) place
   found-back place reading e =
       let fits = found-fits s place reading e .0 in
       rw e
-      (search-back 0 (formatBit (reading .format)) (flippedBit (reading .flipped)) (reading .scrambling) (reading .turn) place (omega arith)
+      (search-back 0 (formatNumber (reading .format)) (flippedNumber (reading .flipped)) (reading .scrambling) (reading .turn) place (omega arith)
       (format-fits (reading .format))
       (flipped-fits (reading .flipped))
       (fits .scrambling)
       (fits .turn))
 
   pub search-refusal-back : (refusal : Refusal) → searchOf s ≡ NotFound refusal
-      → SearchBack (packedSearch (searchOf s)) (refusalNumber refusal) 0 0 0 0 0
+      → SearchBack (captureAsNumber (searchOf s)) (refusalNumber refusal) 0 0 0 0 0
   search-refusal-back refusal e =
       rw e
       (search-back (refusalNumber refusal) 0 0 0 0 0 (number-fits refusal .1) (omega arith) (omega arith) (omega arith) (omega arith))

@@ -1,48 +1,48 @@
-// The public calls for a caller in another language. A call answers one number, whose fields specs/Packed.antt gives,
+// The public calls for a caller in another language. A call answers one number, whose fields specs/AsNumber.antt gives,
 // and asks nothing of what it is given.
 ghost use mathlib.Core.Path.{_≡_};
 ghost use Rattle.encoder.specs.Encoding.{encodeOf};
 ghost use Rattle.checker.specs.Checking.{checkOf};
 ghost use Rattle.reader.specs.Reads.{readOf};
 ghost use Rattle.captures.specs.Captures.{searchOf};
-ghost use Rattle.balise.specs.Packed.{packedEncoded, packedChecked, packedRead, packedSearch};
+ghost use Rattle.balise.specs.AsNumber.{encodedAsNumber, checkedAsNumber, readAsNumber, captureAsNumber};
 
-mod packed;
+mod as_number;
 
 // Encodes a block: its telegram over the front of output. A refusal keeps every byte of output.
 #[no_mangle]
 pub extern "C" fn balise_encode(block: &[u8], output: &mut [u8]) -> u64
-    ensures answers { λ r. ⌜ r ≡ packedEncoded (encodeOf (now (block .entry)) (now (output .entry)) .answer) ⌝ }
+    ensures answers { λ r. ⌜ r ≡ encodedAsNumber (encodeOf (now (block .entry)) (now (output .entry)) .answer) ⌝ }
     ensures writes { λ _. ⌜ now (output .exit) ≡ encodeOf (now (block .entry)) (now (output .entry)) .output ⌝ }
 {
     let answer = encoder::encode(block, output);
-    packed::encoded(answer)
+    as_number::encoded(answer)
 }
 
 // Checks a telegram.
 #[no_mangle]
 pub extern "C" fn balise_check(telegram: &[u8]) -> u64
-    ensures { λ r. ⌜ r ≡ packedChecked (checkOf (now (telegram .entry))) ⌝ }
+    ensures { λ r. ⌜ r ≡ checkedAsNumber (checkOf (now (telegram .entry))) ⌝ }
 {
     let answer = checker::check(telegram);
-    packed::checked(answer)
+    as_number::checked(answer)
 }
 
 // Reads a window: its user bits over the front of output. A refusal keeps every byte of output.
 #[no_mangle]
 pub extern "C" fn balise_read(window: &[u8], output: &mut [u8]) -> u64
-    ensures answers { λ r. ⌜ r ≡ packedRead (readOf (now (window .entry)) (now (output .entry)) .answer) ⌝ }
+    ensures answers { λ r. ⌜ r ≡ readAsNumber (readOf (now (window .entry)) (now (output .entry)) .answer) ⌝ }
     ensures writes { λ _. ⌜ now (output .exit) ≡ readOf (now (window .entry)) (now (output .entry)) .output ⌝ }
 {
     let answer = reader::read(window, output);
-    packed::read(answer)
+    as_number::read(answer)
 }
 
 // Searches a capture for the first window that reads.
 #[no_mangle]
 pub extern "C" fn balise_search(capture: &[u8]) -> u64
-    ensures { λ r. ⌜ r ≡ packedSearch (searchOf (now (capture .entry))) ⌝ }
+    ensures { λ r. ⌜ r ≡ captureAsNumber (searchOf (now (capture .entry))) ⌝ }
 {
     let answer = captures::search(capture);
-    packed::searched(answer)
+    as_number::searched(answer)
 }

@@ -1,5 +1,4 @@
 -- The test that every element is 0 or 1: what it says of the elements, and of the parts of a list. Assumes nothing.
-use mathlib.Core.Bool.{Bool, true, false}
 use mathlib.Core.List.{List, [], _∷_, _++_}
 use Prim.Native.Nat.{ℕ, zero, suc, _/_, _%_, _^_, _<_}
 use native.Mathlib.Omega.{arith}
@@ -33,14 +32,6 @@ allBits-getD (b ∷ s) (suc i) h = allBits-getD s i (allBits-tail b s h)
 pub allBits-append : (u v : List ℕ) → T (allBits u) → T (allBits v) → T (allBits (u ++ v))
 allBits-append [] v h k = k
 allBits-append (b ∷ u) v h k = allBits-cons b (u ++ v) (allBits-head b u h) (allBits-append u v (allBits-tail b u h) k)
-
-pub allBits-append-left : (u v : List ℕ) → T (allBits (u ++ v)) → T (allBits u)
-allBits-append-left [] v h = allBits-nil
-allBits-append-left (b ∷ u) v h = allBits-cons b u (allBits-head b (u ++ v) h) (allBits-append-left u v (allBits-tail b (u ++ v) h))
-
-pub allBits-append-right : (u v : List ℕ) → T (allBits (u ++ v)) → T (allBits v)
-allBits-append-right [] v h = h
-allBits-append-right (b ∷ u) v h = allBits-append-right u v (allBits-tail b (u ++ v) h)
 
 pub allBits-take : (i : ℕ) (s : List ℕ) → T (allBits s) → T (allBits (take i s))
 allBits-take zero s h = allBits-nil

@@ -1,11 +1,11 @@
 -- The first number that passes a test: the steps of a search, and what its answer says. Assumes nothing.
 use mathlib.Core.Path.{_≡_, refl, sym, ap, _∙_}
-use mathlib.Core.Bool.{Bool, true, false, true≢false}
+use mathlib.Core.Bool.{Bool, true, false, true≢false, cond}
 use mathlib.Core.Logic.{⊎-elim}
 use Prim.Native.Nat.{ℕ, zero, suc, _+_, _≤_, _<_}
 use native.Mathlib.Nat.{eq-or-lt-of-le, le-antisymm, le-of-suc-le-suc, lt-of-not-le}
 use native.Mathlib.Omega.{arith}
-use Rattle.bits.specs.Search.{First, found, none, pickFirst, firstOf}
+use Rattle.bits.specs.Search.{First, found, none, firstOf}
 
 -- no number to try
 pub first-none : (test : ℕ → Bool) (i : ℕ) → firstOf test i 0 ≡ none
@@ -13,9 +13,9 @@ unfolding firstOf
 first-none test i = refl
 
 -- the next number passes, or not
-first-next : (test : ℕ → Bool) (i k : ℕ) (passed : Bool) → test i ≡ passed → firstOf test i (suc k) ≡ pickFirst passed (found i) (firstOf test (suc i) k)
+first-next : (test : ℕ → Bool) (i k : ℕ) (passed : Bool) → test i ≡ passed → firstOf test i (suc k) ≡ cond passed (found i) (firstOf test (suc i) k)
 unfolding firstOf
-first-next test i k passed e = ap (λ (b : Bool). pickFirst b (found i) (firstOf test (suc i) k)) e
+first-next test i k passed e = ap (λ (b : Bool). cond b (found i) (firstOf test (suc i) k)) e
 
 pub first-here : (test : ℕ → Bool) (i k : ℕ) → test i ≡ true → firstOf test i (suc k) ≡ found i
 first-here test i k e = first-next test i k true e
@@ -62,7 +62,7 @@ first-says test i zero = λ j h l. absurd (omega arith)
 first-says test i (suc k) = by-test (test i) refl (first-says test (suc i) k)
   where
     by-test : (passed : Bool) → test i ≡ passed → Says test (suc i) k (firstOf test (suc i) k)
-        → Says test i (suc k) (pickFirst passed (found i) (firstOf test (suc i) k))
+        → Says test i (suc k) (cond passed (found i) (firstOf test (suc i) k))
     by-test true e s = record { from = omega arith; below = omega arith; passed = e; earlier = λ j h l. absurd (omega arith) }
     by-test false e s = in-front test i k (firstOf test (suc i) k) e s
 

@@ -1,6 +1,6 @@
 -- The flip: its length, its bits, its parts, and the flip of the flip. Assumes nothing.
-use mathlib.Core.Path.{_≡_, refl, ap, ap₂, _∙_}
-use mathlib.Core.List.{List, [], _∷_, _++_}
+use mathlib.Core.Path.{_≡_, refl, ap, ap₂}
+use mathlib.Core.List.{List, [], _∷_}
 use Prim.Native.Nat.{ℕ, zero, suc, _-_, _<_}
 use native.Mathlib.Nat.{le-of-suc-le-suc}
 use native.Mathlib.Omega.{arith}
@@ -26,11 +26,6 @@ flip-flip (b ∷ s) h =
     let bit = allBits-head b s h in
     let e : 1 - (1 - b) ≡ b = omega arith in
     ap₂ (λ (x : ℕ) (l : List ℕ). x ∷ l) e (flip-flip s (allBits-tail b s h))
-
-pub flip-append : (s t : List ℕ) → flip (s ++ t) ≡ flip s ++ flip t
-unfolding flip
-flip-append [] t = refl
-flip-append (b ∷ s) t = ap (λ (l : List ℕ). (1 - b) ∷ l) (flip-append s t)
 
 pub flip-take : (i : ℕ) (s : List ℕ) → flip (take i s) ≡ take i (flip s)
 unfolding flip

@@ -10,15 +10,7 @@ use lib.Dec.{T, lit<}
 use lib.ListN.{length}
 use lib.Pow.{high, mod-pow-add}
 use Rattle.bits.specs.Bits.{allBits, numberFrom, numberOf, bitsOf}
-use Rattle.bits.proofs.AllBits.{allBits-head, allBits-tail, allBits-bitsOf}
-
-pub numberFrom-nil : (a : ℕ) → numberFrom a [] ≡ a
-unfolding numberFrom
-numberFrom-nil a = refl
-
-pub numberFrom-cons : (a b : ℕ) (s : List ℕ) → numberFrom a (b ∷ s) ≡ numberFrom (a * 2 + b) s
-unfolding numberFrom
-numberFrom-cons a b s = refl
+use Rattle.bits.proofs.AllBits.{allBits-head, allBits-tail}
 
 -- (a*2 + b)*p is a*(p*2) + b*p
 shift : (a b p n : ℕ) → (a * 2 + b) * p + n ≡ a * (p * 2) + (b * p + n)
@@ -42,9 +34,6 @@ pub numberFrom-append : (a : ℕ) (u v : List ℕ) → numberFrom a (u ++ v) ≡
 unfolding numberFrom
 numberFrom-append a [] v = refl
 numberFrom-append a (b ∷ u) v = numberFrom-append (a * 2 + b) u v
-
-pub numberOf-append : (u v : List ℕ) → numberOf (u ++ v) ≡ numberOf u * 2 ^ length v + numberOf v
-numberOf-append u v = numberFrom-append 0 u v ∙ numberFrom-place (numberOf u) v
 
 -- one more bit at the end
 pub more-below : (i n b : ℕ) → n < 2 ^ i → b < 2 → n * 2 + b < 2 ^ (i + 1)
@@ -93,8 +82,3 @@ bitsOf-from a (b ∷ s) h =
 
 pub bitsOf-numberOf : (k : ℕ) (s : List ℕ) → T (allBits s) → length s ≡ k → bitsOf k (numberOf s) ≡ s
 bitsOf-numberOf k s h e = rw (← e) (bitsOf-from 0 s h)
-
--- only the lowest k digits count
-pub bitsOf-mod : (k x : ℕ) → bitsOf k (x % 2 ^ k) ≡ bitsOf k x
-bitsOf-mod k x =
-    ap (bitsOf k) (sym (numberOf-bitsOf k x)) ∙ bitsOf-numberOf k (bitsOf k x) (allBits-bitsOf k x) (length-bitsOf k x)

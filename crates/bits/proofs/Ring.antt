@@ -1,6 +1,6 @@
 -- Bits of a ring: their number, their parts, the turn of the whole, and the flip. Assumes nothing.
 use mathlib.Core.Path.{_≡_, refl, sym, ap, ap₂, _∙_}
-use mathlib.Core.List.{List, [], _∷_, _++_}
+use mathlib.Core.List.{List, _∷_, _++_}
 use Prim.Native.Nat.{ℕ, zero, suc, _+_, _-_, _*_, _%_, _≤_, _<_}
 use native.Mathlib.Nat.{suc-add, add-suc, add-zero, zero-add, zero-mul, suc-mul, add-assoc, mod-eq-of-lt, add-mod-right, mod-lt, le-of-suc-le-suc}
 use native.Mathlib.Omega.{arith}

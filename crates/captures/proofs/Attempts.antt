@@ -17,14 +17,14 @@ use Rattle.formats.specs.declared.format.Format.{Format}
 use Rattle.formats.specs.declared.format.Format.the-variants.{Long, Short}
 use Rattle.formats.specs.declared.refusal.Refusal.the-variants.{Seam, NoPlace}
 use Rattle.formats.specs.Numbers.{numbersOf, windowBits}
-use Rattle.formats.specs.Outcome.{Outcome, outcome, orRefuse}
+use Rattle.formats.specs.Outcome.{outcome, orRefuse}
 use Rattle.reader.specs.declared.Reading.{Reading}
 use Rattle.reader.specs.declared.ReadAnswer.{ReadAnswer}
 use Rattle.reader.specs.declared.ReadAnswer.the-variants.{Read, Refused as NotRead}
 use Rattle.reader.specs.Reads.{seamAgrees, readingOf, readAs}
 use Rattle.reader.proofs.Steps.{length-fits, fits-window, seam-refused}
 use Rattle.reader.proofs.Accepted.{accepted-passed}
-use Rattle.reader.proofs.Room.{answer-room}
+use Rattle.reader.proofs.Room.{answerOf, answer-room}
 use Rattle.captures.specs.Captures.{windowAt, readAt, isRead, accepts}
 use Rattle.captures.specs.Attempts.{attemptOf}
 use Rattle.captures.specs.FirstPlace.{ReadsAs, NotAt}
@@ -37,9 +37,6 @@ zeros = replicate 830 0
 pub zeros-room : (x : Format) → numbersOf x .m ≤ length zeros
 zeros-room Long = rw length-replicate (lit≤ tt)
 zeros-room Short = rw length-replicate (lit≤ tt)
-
-answerOf : Outcome ReadAnswer → ReadAnswer
-answerOf y = y .answer
 
 -- a test of whether something was read
 read-is : (a : ReadAnswer) → isRead a ≡ true → (reading : Reading) × (a ≡ Read reading)
@@ -67,12 +64,11 @@ module _ (x : Format) (s : List ℕ) (p : ℕ) where
 
     -- reading answers by the format's tests
     pub reads-by : readAt x s p ≡ readAs x (windowAt x s p) zeros .answer
-    unfolding readAt answerOf
+    unfolding readAt
     reads-by = ap answerOf (length-fits x (windowAt x s p) zeros (fits-window x (length (windowAt x s p)) window-length))
 
     -- the seam differs
     pub seam-differs : T (allBits s) → seamAgrees (numbersOf x) (windowAt x s p) ≡ false → readAt x s p ≡ NotRead Seam
-    unfolding answerOf
     seam-differs h e =
         reads-by
         ∙ ap answerOf (seam-refused x (windowAt x s p) zeros (is-true (allBits (windowAt x s p)) (window-bits h)) (zeros-room x) e)

@@ -5,9 +5,9 @@ use mathlib.Core.Bool.{false}
 use mathlib.Core.List.{List, []}
 use mathlib.Core.Logic.{_⊎_, inl, inr}
 use Prim.Native.Nat.{ℕ, _+_, _≤_, _<_}
-use native.Mathlib.Omega.{arith}
 use lib.ListN.{length, take, drop}
 use Rattle.bits.specs.Bits.{allBits}
+use Rattle.bits.proofs.Tests.{clash}
 use Rattle.formats.specs.declared.format.Format.{Format}
 use Rattle.formats.specs.declared.refusal.Refusal.{Refusal}
 use Rattle.formats.specs.declared.refusal.Refusal.the-variants.{Length, NotBit, NoPlace}
@@ -45,9 +45,9 @@ module _ (s : List ℕ) where
   -- ---- what an answer tells
 
   found-tells : (p : ℕ) (reading : Reading) (a : Capture) → Answer s a → a ≡ Found p reading → Searched s × FirstPlace s p reading
-  found-tells p reading (Refused r) (over l) e = absurd (let z : _≡_ {A = ℕ} 0 1 = cc in omega arith)
-  found-tells p reading (Refused r) (other-bytes l b) e = absurd (let z : _≡_ {A = ℕ} 0 1 = cc in omega arith)
-  found-tells p reading (Refused r) (nowhere l b n) e = absurd (let z : _≡_ {A = ℕ} 0 1 = cc in omega arith)
+  found-tells p reading (Refused r) (over l) e = clash cc
+  found-tells p reading (Refused r) (other-bytes l b) e = clash cc
+  found-tells p reading (Refused r) (nowhere l b n) e = clash cc
   found-tells p reading (Found q reading′) (first x l b f t) e =
       let place : q ≡ p = cc in
       let same : reading′ ≡ reading = cc in
@@ -55,27 +55,27 @@ module _ (s : List ℕ) where
 
   long-tells : (a : Capture) → Answer s a → a ≡ Refused Length → captureLimit < length s
   long-tells (Refused r) (over l) e = l
-  long-tells (Refused r) (other-bytes l b) e = absurd (let z : _≡_ {A = ℕ} 0 1 = cc in omega arith)
-  long-tells (Refused r) (nowhere l b n) e = absurd (let z : _≡_ {A = ℕ} 0 1 = cc in omega arith)
-  long-tells (Found q r) (first x l b f t) e = absurd (let z : _≡_ {A = ℕ} 0 1 = cc in omega arith)
+  long-tells (Refused r) (other-bytes l b) e = clash cc
+  long-tells (Refused r) (nowhere l b n) e = clash cc
+  long-tells (Found q r) (first x l b f t) e = clash cc
 
   bytes-tell : (a : Capture) → Answer s a → a ≡ Refused NotBit → (length s ≤ captureLimit) × (allBits s ≡ false)
-  bytes-tell (Refused r) (over l) e = absurd (let z : _≡_ {A = ℕ} 0 1 = cc in omega arith)
+  bytes-tell (Refused r) (over l) e = clash cc
   bytes-tell (Refused r) (other-bytes l b) e = (l, b)
-  bytes-tell (Refused r) (nowhere l b n) e = absurd (let z : _≡_ {A = ℕ} 0 1 = cc in omega arith)
-  bytes-tell (Found q r) (first x l b f t) e = absurd (let z : _≡_ {A = ℕ} 0 1 = cc in omega arith)
+  bytes-tell (Refused r) (nowhere l b n) e = clash cc
+  bytes-tell (Found q r) (first x l b f t) e = clash cc
 
   nowhere-tells : (a : Capture) → Answer s a → a ≡ Refused NoPlace → Searched s × NoneAccepts s
-  nowhere-tells (Refused r) (over l) e = absurd (let z : _≡_ {A = ℕ} 0 1 = cc in omega arith)
-  nowhere-tells (Refused r) (other-bytes l b) e = absurd (let z : _≡_ {A = ℕ} 0 1 = cc in omega arith)
+  nowhere-tells (Refused r) (over l) e = clash cc
+  nowhere-tells (Refused r) (other-bytes l b) e = clash cc
   nowhere-tells (Refused r) (nowhere l b n) e = ((l, b), λ p x. not-accepted x s p (n p x))
-  nowhere-tells (Found q r) (first x l b f t) e = absurd (let z : _≡_ {A = ℕ} 0 1 = cc in omega arith)
+  nowhere-tells (Found q r) (first x l b f t) e = clash cc
 
   no-other : (refusal : Refusal) (a : Capture) → Answer s a → a ≡ Refused refusal → (refusal ≡ Length) ⊎ ((refusal ≡ NotBit) ⊎ (refusal ≡ NoPlace))
   no-other refusal (Refused r) (over l) e = inl (cc)
   no-other refusal (Refused r) (other-bytes l b) e = inr (inl (cc))
   no-other refusal (Refused r) (nowhere l b n) e = inr (inr (cc))
-  no-other refusal (Found q r) (first x l b f t) e = absurd (let z : _≡_ {A = ℕ} 0 1 = cc in omega arith)
+  no-other refusal (Found q r) (first x l b f t) e = clash cc
 
   -- ---- the stretch
 

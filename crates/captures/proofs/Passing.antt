@@ -10,6 +10,7 @@ use borrow.Author.Tests.{leb-true, leb-false}
 use lib.Dec.{leb}
 use lib.ListN.{length}
 use Rattle.bits.specs.Bits.{allBits}
+use Rattle.bits.proofs.Tests.{clash}
 use Rattle.formats.specs.declared.format.Format.{Format}
 use Rattle.formats.specs.declared.format.Format.the-variants.{Long, Short}
 use Rattle.formats.specs.declared.refusal.Refusal.{Refusal}
@@ -50,7 +51,7 @@ module _ (s : List ℕ) (p : ℕ) (passed : Passed s p) where
         (record {
           accepted = attempt-read Long s p reading e;
           earlier = passed;
-          longFirst = λ n. absurd (let z : _≡_ {A = ℕ} 0 1 = cc in omega arith);
+          longFirst = λ n. clash cc;
         })
         (read-there Long s p reading e)
 

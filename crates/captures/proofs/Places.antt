@@ -1,7 +1,7 @@
 -- The tries in order and the places that they are at: the first try that accepts is at the first place that accepts, long before short.
 -- Assumes nothing.
 use mathlib.Core.Path.{_≡_, refl, ap, ap₂, _∙_, sym}
-use mathlib.Core.Bool.{Bool, true, false}
+use mathlib.Core.Bool.{Bool, true, false, cond}
 use mathlib.Core.List.{List}
 use mathlib.Core.Logic.{⊎-elim}
 use Prim.Native.Nat.{ℕ, _+_, _*_, _/_, _%_, _≤_, _<_}
@@ -16,7 +16,7 @@ use Rattle.bits.proofs.First.{first-found, first-missing, found-first, missing-
 use Rattle.formats.specs.declared.format.Format.{Format}
 use Rattle.formats.specs.declared.format.Format.the-variants.{Long, Short}
 use Rattle.formats.specs.Numbers.{long, short, numbersOf, windowBits}
-use Rattle.captures.specs.Captures.{readAt, isRead, accepts, pickFormat, triedFormat, acceptsTry, firstTry}
+use Rattle.captures.specs.Captures.{readAt, isRead, accepts, triedFormat, acceptsTry, firstTry}
 
 -- ---- the try of a format at a place
 
@@ -25,8 +25,8 @@ tryOf Long p = 2 * p
 tryOf Short p = 2 * p + 1
 
 pub tried : (x : Format) (p : ℕ) → triedFormat (tryOf x p) ≡ x
-tried Long p = ap pickFormat (eq-eqb (2 * p % 2) 0 (omega arith))
-tried Short p = ap pickFormat (ne-eqb ((2 * p + 1) % 2) 0 (omega arith))
+tried Long p = ap (λ (even : Bool). cond even Long Short) (eq-eqb (2 * p % 2) 0 (omega arith))
+tried Short p = ap (λ (even : Bool). cond even Long Short) (ne-eqb ((2 * p + 1) % 2) 0 (omega arith))
 
 pub tried-place : (x : Format) (p : ℕ) → tryOf x p / 2 ≡ p
 tried-place Long p = omega arith

@@ -1,9 +1,9 @@
 -- What searching a capture answers, and the stretch that it hands back (document 01, "Search, reading and place", and "When the bench
 -- says no": refusals 1, 2 and 13, the lowest that applies).
 -- Assumes nothing.
-use Prim.Native.Nat.{ℕ, suc, _+_, _*_, _/_, _%_}
-use mathlib.Core.Bool.{Bool, true, false}
-use mathlib.Core.List.{List, []}
+use Prim.Native.Nat.{ℕ, _+_, _*_, _/_, _%_}
+use mathlib.Core.Bool.{Bool, true, false, cond}
+use mathlib.Core.List.{List, [], _∷_}
 use lib.Dec.{eqb, leb}
 use lib.ListN.{length, take, drop, replicate}
 use Rattle.bits.specs.Bits.{both, allBits}
@@ -13,13 +13,19 @@ use Rattle.formats.specs.declared.format.Format.the-variants.{Long, Short}
 use Rattle.formats.specs.declared.refusal.Refusal.the-variants.{Length, NotBit, NoPlace}
 use Rattle.formats.specs.Numbers.{numbersOf, windowBits}
 use Rattle.formats.specs.Outcome.{orRefuse}
+use Rattle.formats.specs.AnswerValues.{refusalValues}
 use Rattle.reader.specs.declared.ReadAnswer.{ReadAnswer}
 use Rattle.reader.specs.declared.ReadAnswer.the-variants.{Read, Refused as NotRead}
-use Rattle.reader.specs.Reads.{readOf}
+use Rattle.reader.specs.Reads.{readingValues, readOf}
 use Rattle.captures.specs.declared.Capture.{Capture}
 use Rattle.captures.specs.declared.Capture.the-variants.{Found, Refused}
 
--- a capture has at most as many bits
+-- the values of each answer: 0, the place, and those of the reading; or those of the refusal
+abbrev pub captureValues : Capture → List ℕ
+captureValues (Found p reading) = 0 ∷ p ∷ readingValues reading
+captureValues (Refused refusal) = refusalValues refusal
+
+-- a capture has at most this many bits
 abbrev pub captureLimit : ℕ
 captureLimit = 7500
 
@@ -39,13 +45,9 @@ isRead (NotRead refusal) = false
 unfoldable pub accepts : Format → List ℕ → ℕ → Bool
 accepts format s p = both (leb (p + windowBits (numbersOf format)) (length s)) (isRead (readAt format s p))
 
--- the tries in order: places from 0 up, long before short at one place. Try q is at place q / 2
-abbrev pub pickFormat : Bool → Format
-pickFormat true = Long
-pickFormat false = Short
-
+-- the tries in order: places from 0 up, long before short at one place. Try q is at place q / 2, long if q is even
 abbrev pub triedFormat : ℕ → Format
-triedFormat q = pickFormat (eqb (q % 2) 0)
+triedFormat q = cond (eqb (q % 2) 0) Long Short
 
 unfoldable pub acceptsTry : List ℕ → ℕ → Bool
 acceptsTry s q = accepts (triedFormat q) s (q / 2)
@@ -63,6 +65,7 @@ abbrev pub foundTry : List ℕ → First → Capture
 foundTry s (found q) = foundAs (q / 2) (readAt (triedFormat q) s (q / 2))
 foundTry s none = Refused NoPlace
 
+-- any capture: refusals 1 and 2, then the first try that accepts, or refusal 13
 unfoldable pub searchOf : List ℕ → Capture
 searchOf s =
     orRefuse (leb (length s) captureLimit) (Refused Length)

@@ -5,7 +5,7 @@ ghost use lib.Dec.{T};
 ghost use lib.ListN.{length};
 ghost use Rattle.bits.specs.Bits.{allBits};
 ghost use Rattle.formats.specs.Numbers.{numbersOf, windowBits};
-ghost use Rattle.captures.specs.Captures.{searchOf, stretchOf};
+ghost use Rattle.captures.specs.Captures.{searchOf, captureValues, stretchOf};
 ghost use Rattle.captures.specs.Attempts.{attemptOf};
 use formats::format;
 use formats::format::Format;
@@ -14,7 +14,7 @@ use formats::refusal::Refusal;
 use reader::ReadAnswer;
 use reader::Reading;
 
-// A capture has at most as many bits.
+// A capture has at most this many bits.
 pub const LIMIT: usize = 7500;
 
 // What searching a capture answers: the first place at which a window is read, with its reading, or a refusal.
@@ -52,7 +52,8 @@ fn attempt(format: Format, capture: &[u8], place: usize) -> ReadAnswer
 
 // The first place at which read accepts: places from 0 up, long before short at one place, as far as a short window fits.
 pub fn search(capture: &[u8]) -> Capture
-    ensures { λ r. ⌜ r ≡ searchOf (now (capture .entry)) ⌝ }
+    ensures answers { λ r. ⌜ r ≡ searchOf (now (capture .entry)) ⌝ }
+    ensures numbered { λ r. ⌜ captureValues r ≡ captureValues (searchOf (now (capture .entry))) ⌝ }
 {
     if LIMIT < capture.len() {
         return Capture::Refused(Refusal::Length);

@@ -1,4 +1,4 @@
--- `Exact` has the theorem: what is accepted, and which number a refusal has. `Lengths`, `Steps` and `WellFormed` serve the code's
+-- `Exact` has the theorem `checks`: what is accepted, and which number a refusal has. `Lengths`, `Steps` and `WellFormed` serve the code's
 -- proofs too.
 pub mod Lengths
 pub mod Steps

@@ -5,7 +5,7 @@ ghost use lib.ListN.{length};
 ghost use Rattle.bits.specs.Bits.{allBits};
 ghost use Rattle.formats.specs.Numbers.{numbersOf};
 ghost use Rattle.telegrams.specs.Fields.{wellFormed};
-ghost use Rattle.checker.specs.Checking.{checkAs, checkOf};
+ghost use Rattle.checker.specs.Checking.{checkAs, checkOf, checkedValues};
 use conditions::off_step;
 use conditions::repeating;
 use conditions::thinned;
@@ -63,7 +63,8 @@ fn check_form(format: Format, telegram: &[u8]) -> Checked
 
 // Whether the bytes are a proper telegram, and of which format; else the lowest refusal that applies.
 pub fn check(telegram: &[u8]) -> Checked
-    ensures { λ r. ⌜ r ≡ checkOf (now (telegram .entry)) ⌝ }
+    ensures answers { λ r. ⌜ r ≡ checkOf (now (telegram .entry)) ⌝ }
+    ensures numbered { λ r. ⌜ checkedValues r ≡ checkedValues (checkOf (now (telegram .entry))) ⌝ }
 {
     let Fit::As(format) = format::of_length(Long::N, Short::N, telegram.len()) else {
         return Checked::Refused(Refusal::Length);

@@ -1,4 +1,4 @@
--- In how many places two lists differ: none of a list and itself, as many either way round, at most as many as by way of a third list,
+-- In how many places two lists differ: as many either way round, at most as many as by way of a third list,
 -- the sum over the parts, and as many of the flips of bits. Assumes nothing.
 use mathlib.Core.Bool.{Bool, true, false}
 use mathlib.Core.List.{List, [], _∷_, _++_}
@@ -6,7 +6,7 @@ use mathlib.Core.Path.{_≡_, refl, sym, ap, ap₂, subst⁻¹, _∙_}
 use Prim.Native.Nat.{ℕ, zero, suc, _+_, _-_, _≤_, _<_}
 use native.Mathlib.Nat.{zero-add}
 use native.Mathlib.Omega.{arith}
-use lib.Dec.{T, eqb, eqb→eq, eqb-refl, eqb·zero-suc, eqb·suc-zero, eqb·suc-suc}
+use lib.Dec.{T, eqb, eqb→eq, eqb·zero-suc, eqb·suc-zero, eqb·suc-suc}
 use lib.ListN.{length, take, drop}
 use Rattle.bits.specs.Bits.{allBits, flip}
 use Rattle.bits.proofs.AllBits.{allBits-head, allBits-tail}
@@ -49,11 +49,6 @@ eqb-flip (suc zero) (suc zero) h k = refl
 eqb-flip (suc zero) (suc (suc c)) h k = absurd (omega arith)
 eqb-flip (suc (suc a)) c h k = absurd (omega arith)
 
-pub differences-self : (u : List ℕ) → differences u u ≡ 0
-unfolding differences
-differences-self [] = refl
-differences-self (a ∷ u) = count-same (eqb a a) (differences u u) (eqb-refl a) ∙ differences-self u
-
 pub differences-nil : (u : List ℕ) → differences u [] ≡ 0
 unfolding differences
 differences-nil [] = refl
@@ -91,9 +86,6 @@ differences-cut (suc i) (a ∷ u) [] = omega (arith, differences-nil (drop i u))
 differences-cut (suc i) (a ∷ u) (c ∷ v) =
     ap (countDiffering (eqb a c)) (differences-cut i u v)
     ∙ count-add (eqb a c) (differences (take i u) (take i v)) (differences (drop i u) (drop i v))
-
-pub differences-take : (i : ℕ) (u v : List ℕ) → differences (take i u) (take i v) ≤ differences u v
-differences-take i u v = omega (arith, differences-cut i u v)
 
 pub differences-drop : (i : ℕ) (u v : List ℕ) → differences (drop i u) (drop i v) ≤ differences u v
 differences-drop i u v = omega (arith, differences-cut i u v)

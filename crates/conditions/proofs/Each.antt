@@ -7,7 +7,7 @@ use native.Mathlib.Numerals.{add-one}
 use native.Mathlib.Omega.{arith}
 use lib.Dec.{T}
 use Rattle.bits.specs.Bits.{both}
-use Rattle.bits.proofs.Both.{both-left, both-right, both-of}
+use Rattle.bits.proofs.Both.{both-left, both-right}
 use Rattle.conditions.specs.Conditions.{each}
 
 -- where it holds of each it holds of the j-th
@@ -19,17 +19,6 @@ each-at test i (suc k) zero t h =
 each-at test i (suc k) (suc j) t h =
     let place : suc i + j ≡ i + suc j = omega arith in
     subst (λ (x : ℕ). T (test x)) place (each-at test (suc i) k j (both-right (test i) (each test (suc i) k) t) (le-of-suc-le-suc h))
-
--- where it holds of the j-th for every j below k it holds of each
-pub each-of : (test : ℕ → Bool) (i k : ℕ) → ((j : ℕ) → j < k → T (test (i + j))) → T (each test i k)
-unfolding each
-each-of test i zero f = tt
-each-of test i (suc k) f =
-    both-of (test i) (each test (suc i) k)
-    (subst (λ (x : ℕ). T (test x)) (add-zero i) (f 0 (omega arith)))
-    (each-of test (suc i) k λ j h.
-    let place : i + suc j ≡ suc i + j = omega arith in
-    subst (λ (x : ℕ). T (test x)) place (f (suc j) (omega arith)))
 
 -- two tests that agree
 pub each-same : (s t : ℕ → Bool) (i k : ℕ) → ((j : ℕ) → s j ≡ t j) → each s i k ≡ each t i k

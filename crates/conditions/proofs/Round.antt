@@ -40,11 +40,6 @@ around-done k i p b h =
     let none : k - i ≡ 0 = omega arith in
     ap (λ (x : ℕ). around x p b) none
 
-pub length-validWords : (k p : ℕ) (b : List ℕ) → length (validWords k p b) ≡ k
-unfolding validWords
-length-validWords zero p b = refl
-length-validWords (suc k) p b = ap suc (length-validWords k (p + 11) b)
-
 pub validWords-mod : (k p : ℕ) (b : List ℕ) → validWords k (p % length b) b ≡ validWords k p b
 unfolding validWords
 validWords-mod zero p b = refl

@@ -2,14 +2,14 @@
 -- at place n-1-i of the list, and the strip from b(n-1-p) rightward starts at place p.
 -- Assumes nothing.
 use Prim.Native.Nat.{ℕ, zero, suc, _+_, _-_, _*_, _%_, _^_}
-use mathlib.Core.Bool.{Bool, true, false}
+use mathlib.Core.Bool.{Bool, true, false, cond}
 use mathlib.Core.List.{List, [], _∷_}
 use lib.Dec.{eqb, leb}
 use lib.ListN.{length, getD}
 use Rattle.bits.specs.Bits.{both, around}
 use Rattle.formats.specs.declared.format.Format.{Format}
 use Rattle.formats.specs.declared.format.Format.the-variants.{Long, Short}
-use Rattle.formats.specs.Numbers.{Numbers, numbersOf}
+use Rattle.formats.specs.Numbers.{numbersOf}
 use Rattle.telegrams.specs.Fields.{wellFormed}
 use Rattle.conditions.specs.Runs.{validWords, longest, longestRound}
 
@@ -23,12 +23,8 @@ abbrev pub offStepLimit : Format → ℕ
 offStepLimit Long = 10
 offStepLimit Short = 6
 
-abbrev pub pickLimit : Bool → ℕ → ℕ → ℕ
-pickLimit true x y = x
-pickLimit false x y = y
-
 unfoldable pub limitAt : Format → ℕ → ℕ
-limitAt format p = pickLimit (eqb p 1) 2 (pickLimit (eqb p 10) 2 (offStepLimit format))
+limitAt format p = cond (eqb p 1) 2 (cond (eqb p 10) 2 (offStepLimit format))
 
 -- off step by p, on the straight strip: one word fewer fits
 unfoldable pub offStepAt : Format → List ℕ → ℕ → Bool
@@ -37,11 +33,11 @@ offStepAt format b p = leb (longest (validWords (numbersOf format .words - 1) p 
 unfoldable pub offStep : Format → List ℕ → Bool
 offStep format b = each (offStepAt format b) 1 10
 
--- in how many places two lists differ
 abbrev pub countDiffering : Bool → ℕ → ℕ
 countDiffering true k = k
 countDiffering false k = suc k
 
+-- in how many places two lists differ
 unfoldable pub differences : List ℕ → List ℕ → ℕ
 differences [] v = 0
 differences (a ∷ u) [] = 0

@@ -18,7 +18,6 @@ use Rattle.cyclic.proofs.Space.{Space, times, pow, times-times, times-n
 use Rattle.cyclic.proofs.Products.{times-product, bits-product, times-zeros, two-terms, bits-polynomial}
 use Rattle.cyclic.proofs.Registers.{Reg, same-bits, Monic, By, rem, remainder-is, one, none}
 use Rattle.cyclic.proofs.Quotients.{short, rem-itself, quotient, quotient-bits, through, whole}
-use Rattle.cyclic.proofs.Remainders.{remainder-bits}
 use Rattle.cyclic.proofs.Facts.{Facts}
 
 module _ (F : Numbers) (A : Facts F) where
@@ -46,13 +45,6 @@ module _ (F : Numbers) (A : Facts F) where
 
   -- a divisor d of f*g
   module _ (k : ℕ) (d : List ℕ) (m : Monic (suc k) d) (z : rem k d m (fgOf F) ≡ none (suc k)) where
-    -- the remainder by d of the remainder by f*g
-    pub of-remainder : (v : List ℕ) → Bits v → remainder d (remainder (fgOf F) v) ≡ remainder d v
-    of-remainder v h =
-        remainder-is k d m (remainder (fgOf F) v) (remainder-bits (fgOf F) v h)
-        ∙ ap (λ (r : Reg (suc k)). r .of) (through 84 (fgOf F) (A .fg-degree) (By k d m) (one k) v h z)
-        ∙ sym (remainder-is k d m v h)
-
     -- n shifts do nothing
     pub round-trip : pow (By k d m) (F .n) (one k) ≡ one k
     round-trip =
@@ -158,7 +150,7 @@ module _ (F : Numbers) (A : Facts F) where
       sym (times-product modF (A .inverse) (gOf F) 75 (one 9) (A .inverse-bits) (A .g-degree .size))
       ∙ same-bits (sym (remainder-is 9 (fOf F) (A .f-degree) (product (A .inverse) (gOf F)) (bits-product (A .inverse) (gOf F))) ∙ A .coprime)
 
-  -- what g divides and leaves g by f leaves g by f*g (C4)
+  -- what g divides and leaves g by f leaves g by f*g
   pub by-both : (v : List ℕ) → Bits v → remG v ≡ none 75 → remF v ≡ remF (gOf F) → remFG v ≡ remFG (gOf F)
   by-both v h zg ef =
       let q = quotient 74 (gOf F) (A .g-degree) v in

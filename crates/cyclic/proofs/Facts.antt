@@ -1,4 +1,4 @@
--- The facts of the two formats that are computed.
+-- The facts of the two formats that are computed; three of them document 01 asks for ("Check bits").
 -- Assumes nothing.
 use Prim.Native.Nat.{ℕ, zero, suc, _-_, _<_}
 use mathlib.Core.Path.{_≡_, refl}
@@ -6,7 +6,7 @@ use mathlib.Core.Bool.{Bool, true, not}
 use mathlib.Core.List.{List, [], _∷_, _++_}
 use lib.Dec.{T, lit<}
 use lib.ListN.{drop, replicate}
-use Rattle.bits.specs.Bits.{both, allBits, numberOf, numberFrom}
+use Rattle.bits.specs.Bits.{both, allBits}
 use Rattle.formats.specs.Polynomial.{sum, product, polynomial, coefficientOf, coefficientsBelow}
 use Rattle.formats.specs.Numbers.{Numbers, long, short, fOf, gOf, fgOf}
 use Rattle.cyclic.specs.Remainder.{step, remainderFrom, remainder}
@@ -21,20 +21,21 @@ never t o s (suc k) = both (not (same s o)) (never t o (step t s 0) k)
 
 -- what is computed for a format
 pub record Facts (F : Numbers) : Type 0 where
-  -- C1: the degrees
+  -- the degrees
   pub f-degree : Monic 10 (fOf F)
   pub g-degree : Monic 75 (gOf F)
   pub fg-degree : Monic 85 (fgOf F)
-  -- C2: f*g divides x^n+1
+  -- more than one bit
   pub many : 1 < F .n
+  -- f*g divides x^n+1 (document 01)
   pub round : remainder (fgOf F) (polynomial (F .n ∷ 0 ∷ [])) ≡ zeros 85
-  -- C3: f*g divides the polynomial whose n coefficients are all 1
+  -- f*g divides the polynomial whose n coefficients are all 1
   pub ones : remainder (fgOf F) (replicate (F .n) 1) ≡ zeros 85
-  -- C4: g has an inverse modulo f, so f and g have no common factor
+  -- g has an inverse modulo f, so f and g have no common factor
   pub inverse : List ℕ
   pub inverse-bits : Bits inverse
   pub coprime : remainder (fOf F) (product inverse (gOf F)) ≡ zeros 9 ++ (1 ∷ [])
-  -- C5: x^s*g is not g modulo f for s from 1 to n-1
+  -- x^s*g is not g modulo f for s from 1 to n-1: so the n remainders by f differ and none is 0 (document 01; `turn-unique`, `turn-never`)
   pub fresh : T (never (drop 1 (fOf F)) (turnRemainder F 0) (turnRemainder F 1) (F .n - 1))
 
 -- the facts of the long format
@@ -71,22 +72,12 @@ shortFacts =
       fresh = tt;
     }
 
--- C7: long g divides short g times x^682+x^341+1
+-- long g divides short g times x^682+x^341+1 (document 01)
 pub long-g-divides : remainder (gOf long) (product (gOf short) (polynomial (682 ∷ 341 ∷ 0 ∷ []))) ≡ zeros 75
 unfolding gOf polynomial coefficientOf coefficientsBelow product sum step remainderFrom remainder
 long-g-divides = refl
 
--- C8: long f divides x^682+x^341+1
+-- long f divides x^682+x^341+1
 pub long-f-divides : remainder (fOf long) (polynomial (682 ∷ 341 ∷ 0 ∷ [])) ≡ zeros 10
 unfolding fOf polynomial coefficientOf coefficientsBelow sum step remainderFrom remainder
 long-f-divides = refl
-
--- W8: x^10 leaves 735 by the long f
-pub W8 : numberOf (remainder (fOf long) (1 ∷ replicate 10 0)) ≡ 735
-unfolding fOf polynomial coefficientOf coefficientsBelow sum step remainderFrom remainder numberFrom
-W8 = refl
-
--- W9: x^10 leaves 427 by the short f
-pub W9 : numberOf (remainder (fOf short) (1 ∷ replicate 10 0)) ≡ 427
-unfolding fOf polynomial coefficientOf coefficientsBelow sum step remainderFrom remainder numberFrom
-W9 = refl

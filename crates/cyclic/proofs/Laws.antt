@@ -17,24 +17,16 @@ use Rattle.cyclic.proofs.Lists.{bits-zeros, bits-sum, length-sum}
 use Rattle.cyclic.proofs.Space.{pow, times-append, pow-nil, pow-add, other, twice, run-append, zeros-back}
 use Rattle.cyclic.proofs.Registers.{Reg, same-bits, remainder-is, one, none}
 use Rattle.cyclic.proofs.Quotients.{rem-short}
-use Rattle.cyclic.proofs.Cyclic.{f-divides, g-divides, fg-divides, of-remainder, rem-turned, flipped, modF, modG, modFG, remF, remG, remFG, padded-is, turn-is, g-round, by-both, g-of-fg, f-of-fg}
+use Rattle.cyclic.proofs.Cyclic.{f-divides, g-divides, fg-divides, rem-turned, flipped, modF, modG, modFG, remF, remG, remFG, padded-is, turn-is, g-round, by-both, g-of-fg, f-of-fg}
 pub use Rattle.cyclic.proofs.Cyclic.{bits-padded, length-padded}
-pub use Rattle.cyclic.proofs.Lists.{Bits, zeros, bits-turned, length-turned, turned-back, flip-turned}
-pub use Rattle.cyclic.proofs.Facts.{Facts, longFacts, shortFacts, long-g-divides, long-f-divides, W8, W9}
-pub use Rattle.cyclic.proofs.Remainders.{remainder-bits, remainder-length, remainder-sum, remainder-next}
+pub use Rattle.cyclic.proofs.Lists.{Bits, zeros, bits-turned, length-turned, turned-back}
+pub use Rattle.cyclic.proofs.Facts.{Facts, longFacts, shortFacts, long-g-divides, long-f-divides}
+pub use Rattle.cyclic.proofs.Remainders.{remainder-bits, remainder-length, length-remainder, remainder-next}
 pub use Rattle.cyclic.proofs.Turns.{turn-unique, turn-never, turn-next, turnOf-turn, turnOf-at, turnOf-nothing}
 pub use Rattle.cyclic.proofs.Rounds.{thrice}
 
 module _ (F : Numbers) (A : Facts F) where
-  -- the remainder by f of the remainder by f*g is that by f
-  pub remainder-of-remainder-f : (v : List ℕ) → Bits v → remainder (fOf F) (remainder (fgOf F) v) ≡ remainder (fOf F) v
-  remainder-of-remainder-f = of-remainder F A 9 (fOf F) (A .f-degree) (f-divides F A)
-
-  -- and so for g
-  pub remainder-of-remainder-g : (v : List ℕ) → Bits v → remainder (gOf F) (remainder (fgOf F) v) ≡ remainder (gOf F) v
-  remainder-of-remainder-g = of-remainder F A 74 (gOf F) (A .g-degree) (g-divides F A)
-
-  -- what leaves 0 by g and the remainder of turn 0 by f has right check bits (C4)
+  -- what leaves 0 by g and the remainder of turn 0 by f has right check bits
   pub two-factors : (b : List ℕ) → Bits b → remainder (gOf F) b ≡ zeros 75 → remainder (fOf F) b ≡ turnRemainder F 0
       → remainder (fgOf F) b ≡ gPadded F
   unfolding pow
@@ -89,15 +81,7 @@ module _ (F : Numbers) (A : Facts F) where
       ∙ sym (pow-add (modF F A) k t g) ∙ ap (λ (j : ℕ). pow (modF F A) j g) all ∙ g-round F A in
       remainder-is 84 (fgOf F) (A .fg-degree) back tb ∙ ap (λ (r : Reg 85). r .of) (by-both F A back tb by-g by-f) ∙ sym (padded-is F A)
 
-  -- to flip all n bits changes no remainder by f
-  pub flip-f : (b : List ℕ) → Bits b → length b ≡ F .n → remainder (fOf F) (flip b) ≡ remainder (fOf F) b
-  flip-f = flipped F A 9 (fOf F) (A .f-degree) (f-divides F A)
-
-  -- by g
-  pub flip-g : (b : List ℕ) → Bits b → length b ≡ F .n → remainder (gOf F) (flip b) ≡ remainder (gOf F) b
-  flip-g = flipped F A 74 (gOf F) (A .g-degree) (g-divides F A)
-
-  -- or by f*g
+  -- to flip all n bits changes no remainder by f*g
   pub flip-fg : (b : List ℕ) → Bits b → length b ≡ F .n → remainder (fgOf F) (flip b) ≡ remainder (fgOf F) b
   flip-fg = flipped F A 84 (fgOf F) (A .fg-degree) (fg-divides F A)
 
@@ -109,7 +93,7 @@ module _ (F : Numbers) (A : Facts F) where
   -- ten of them
   pub length-turn : (s : ℕ) → length (turnRemainder F s) ≡ 10
   unfolding turnRemainder
-  length-turn s = remainder-length (fOf F) (gOf F ++ zeros s) ∙ omega (arith, A .f-degree .size)
+  length-turn s = length-remainder (A .f-degree) (gOf F ++ zeros s)
 
   -- the check bits are bits
   pub bits-checkBits : (d : List ℕ) → Bits (checkBits F d)
@@ -120,8 +104,7 @@ module _ (F : Numbers) (A : Facts F) where
   pub length-checkBits : (d : List ℕ) → length (checkBits F d) ≡ 85
   unfolding checkBits
   length-checkBits d =
-      let size : length (remainder (fgOf F) (d ++ zeros 85)) ≡ 85 =
-      remainder-length (fgOf F) (d ++ zeros 85) ∙ omega (arith, A .fg-degree .size) in
+      let size = length-remainder (A .fg-degree) (d ++ zeros 85) in
       length-sum (remainder (fgOf F) (d ++ zeros 85)) (gPadded F) (size ∙ sym (length-padded F A)) ∙ size
 
   -- the check bits, and nothing else, make a telegram leave g
@@ -146,7 +129,7 @@ module _ (F : Numbers) (A : Facts F) where
         λ e. whole-is ∙ ap (λ (r : Reg 85). r .of) (split ∙ ap (M .add front) (same-bits {a = reg} {b = M .add front g} (e ∙ checked)) ∙ twice M front g) ∙ sym (padded-is F A),
       )
 
--- f*g divides x^1023+1 in the long format (C2)
+-- f*g divides x^1023+1 in the long format
 pub long-round : remainder (fgOf long) (polynomial (1023 ∷ 0 ∷ [])) ≡ zeros 85
 long-round = longFacts .round
 

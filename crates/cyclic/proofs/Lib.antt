@@ -6,9 +6,9 @@ pub mod Quotients
 pub mod Remainders
 pub mod Facts
 pub mod Cyclic
+pub mod Same
 pub mod Turns
 pub mod Rounds
 pub mod Laws
-pub mod Same
 pub mod Formats
 pub mod Machine

@@ -10,7 +10,6 @@ use lib.ListN.{length, take, drop, replicate, length-append, length-replicate, l
 use lib.Seq.{take-at, drop-at}
 use Rattle.bits.specs.Bits.{allBits, flip}
 use Rattle.bits.proofs.AllBits.{allBits-nil, allBits-cons, allBits-head, allBits-tail, allBits-append, allBits-take, allBits-drop}
-use Rattle.bits.proofs.Flipped.{flip-append, flip-take, flip-drop}
 use Rattle.formats.specs.Polynomial.{sum}
 use Rattle.cyclic.specs.Check.{turned}
 
@@ -125,11 +124,6 @@ flip-sum (b ∷ v) h =
     let l = allBits-head b v h in
     let e : 1 - b ≡ (b + 1) % 2 = omega arith in
     ap₂ {C = List ℕ} (λ x r. x ∷ r) e (flip-sum v (allBits-tail b v h))
-
--- flipped and turned is turned and flipped
-pub flip-turned : (t : ℕ) (b : List ℕ) → flip (turned t b) ≡ turned t (flip b)
-unfolding turned
-flip-turned t b = flip-append (drop t b) (take t b) ∙ ap₂ _++_ (flip-drop t b) (flip-take t b)
 
 -- a list that is not empty, as its front and its last element
 pub last-split : (v : List ℕ) (k : ℕ) → length v ≡ suc k → (u : List ℕ) × (b : ℕ) × (v ≡ u ++ (b ∷ [])) × (length u ≡ k)

@@ -7,14 +7,14 @@ use mathlib.Core.List.{List, [], _∷_, _++_, append-assoc, append-nil}
 use native.Mathlib.Nat.{suc-inj}
 use native.Mathlib.Omega.{arith}
 use lib.Dec.{lit<}
-use lib.ListN.{length, drop, length-append, take-append-drop}
+use lib.ListN.{length, drop, length-append}
 use Rattle.formats.specs.Polynomial.{sum, timesBit}
 use Rattle.cyclic.specs.Remainder.{step, remainderFrom, remainder}
 use Rattle.bits.proofs.AllBits.{allBits-nil, allBits-cons, allBits-head, allBits-tail}
 use Rattle.cyclic.proofs.Lists.{Bits, zeros, length-zeros, bits-zeros, last-split, sum-self}
 use Rattle.cyclic.proofs.Space.{Space, times, pow, times-none, unit-right, swap-middle, times-append, times-add, times-sum, times-leading, pow-times, pow-sum, zeros-front, times-nil, equal-of-nil}
 use Rattle.cyclic.proofs.Products.{length-timesBit, timesBit-times, times-zeros}
-use Rattle.cyclic.proofs.Registers.{Reg, same-bits, Monic, tail, rem, remainder-is, none, step-is, bits-step, length-step}
+use Rattle.cyclic.proofs.Registers.{Reg, same-bits, Monic, leading, tail, rem, remainder-is, none, step-is, bits-step, length-step}
 
 -- the bit that goes out next
 abbrev first : List ℕ → ℕ
@@ -122,10 +122,6 @@ self-from t u x h =
     ∙ ap (λ (l : List ℕ). sum l t) (sym h) ∙ sum-self t
 
 module _ (k : ℕ) (d : List ℕ) (m : Monic (suc k) d) where
-  -- d, its first coefficient written out
-  pub leading : d ≡ 1 ∷ drop 1 d
-  leading = sym (take-append-drop 1 d) ∙ ap (λ (l : List ℕ). l ++ drop 1 d) (m .leads)
-
   -- as many bits as the degree are their own remainder
   pub short : (v : List ℕ) → length v ≡ suc k → remainder d v ≡ v
   unfolding remainder
@@ -154,7 +150,7 @@ module _ (k : ℕ) (d : List ℕ) (m : Monic (suc k) d) where
       let t = tail k d m in
       let l = last-split (t .of) k (t .size) in
       let degree : length d - 1 ≡ suc (length (l .0)) = omega (arith, m .size, l .3) in
-      ap₂ (λ (n : ℕ) (v : List ℕ). remainderFrom (t .of) (zeros n) v) degree leading
+      ap₂ (λ (n : ℕ) (v : List ℕ). remainderFrom (t .of) (zeros n) v) degree (leading m)
       ∙ self-from (t .of) (l .0) (l .1) (l .2) ∙ ap zeros (t .size)
 
   -- nor does its register
@@ -170,7 +166,7 @@ module _ (k : ℕ) (d : List ℕ) (m : Monic (suc k) d) where
         let degree : length d - 1 ≡ suc k = omega (arith, m .size) in
         ap (λ (n : ℕ). times M (remainderFrom (drop 1 d) (zeros n) v) e) degree
         ∙ divided-from M e k (t .of) (zeros (suc k)) v (bits-zeros (suc k)) h (t .size) (length-zeros (suc k))
-        ∙ ap₂ (λ (x : M .Car) (l : List ℕ). M .add x (times M (quotient v) (times M l e))) (zeros-front M (suc k) v e) (sym leading)
+        ∙ ap₂ (λ (x : M .Car) (l : List ℕ). M .add x (times M (quotient v) (times M l e))) (zeros-front M (suc k) v e) (sym (leading m))
 
     -- where d is nothing, the remainder is worth as much as the whole
     pub through : times M d e ≡ M .nil → times M (remainder d v) e ≡ times M v e

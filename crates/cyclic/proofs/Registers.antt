@@ -8,7 +8,7 @@ use mathlib.Core.List.{List, [], _∷_, _++_}
 use native.Mathlib.Nat.{ℕ-set}
 use native.Mathlib.Omega.{arith}
 use lib.Dec.{T-prop, lit<}
-use lib.ListN.{length, take, drop, length-append, length-drop}
+use lib.ListN.{length, take, drop, length-append, length-drop, take-append-drop}
 use Rattle.bits.specs.Bits.{allBits}
 use Rattle.formats.specs.Polynomial.{sum, timesBit}
 use Rattle.cyclic.specs.Remainder.{reduced, step, remainderFrom, remainder}
@@ -159,6 +159,10 @@ pub record Monic (k : ℕ) (d : List ℕ) : Type 0 where
   pub bits : Bits d
   pub size : length d ≡ suc k
   pub leads : take 1 d ≡ 1 ∷ []
+
+-- d, its first coefficient written out
+pub leading : {k : ℕ} {d : List ℕ} → Monic k d → d ≡ 1 ∷ drop 1 d
+leading {d} m = sym (take-append-drop 1 d) ∙ ap (λ (l : List ℕ). l ++ drop 1 d) (m .leads)
 
 module _ (k : ℕ) (d : List ℕ) (m : Monic (suc k) d) where
   -- d without its first coefficient

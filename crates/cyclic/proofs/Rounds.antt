@@ -1,4 +1,4 @@
--- Three rounds of a short telegram, as a long window: g of the long format divides them (C7), and f leaves 0 (C8).
+-- Three rounds of a short telegram, as a long window: g of the long format divides them, and so does f.
 -- Assumes nothing.
 use Prim.Native.Nat.{ℕ, _+_}
 use mathlib.Core.Path.{_≡_, refl, sym, ap, _∙_}

@@ -1,41 +1,28 @@
 -- The n turns of a telegram leave different remainders by f, none of them 0, and `turnOf` finds the one.
 -- Assumes nothing.
 use Prim.Native.Nat.{ℕ, zero, suc, _+_, _-_, _<_, _≤_}
-use mathlib.Core.Path.{_≡_, refl, sym, ap, ap₂, subst, subst₂, _∙_}
-use mathlib.Core.Bool.{Bool, true, false, not}
+use mathlib.Core.Path.{_≡_, refl, sym, ap, subst, subst₂, _∙_}
+use mathlib.Core.Bool.{Bool, true, false, not, cond}
 use mathlib.Core.List.{List, [], _∷_, _++_, append-assoc}
 use native.Mathlib.Numerals.{add-one}
 use native.Mathlib.Decide.{decLt}
 use native.Mathlib.Omega.{arith}
-use lib.Dec.{T, eqb, eqb→eq, eqb-refl, T-not, lit<}
-use lib.ListN.{drop}
+use lib.Dec.{T, T-not, lit<}
+use lib.ListN.{drop, replicate-append-replicate}
 use Rattle.formats.specs.Numbers.{Numbers, fOf, gOf}
 use Rattle.cyclic.specs.declared.Turn.{Turn}
 use Rattle.cyclic.specs.declared.Turn.the-variants.{At, Nothing}
 use Rattle.cyclic.specs.Remainder.{step, remainder}
-use Rattle.cyclic.specs.Check.{same, turnRemainder, pickTurn, turnAmong, turnOf}
-use Rattle.bits.proofs.Both.{both-left, both-right, both-of}
+use Rattle.cyclic.specs.Check.{same, turnRemainder, turnAmong, turnOf}
+use Rattle.bits.proofs.Both.{both-left, both-right}
+use Rattle.bits.proofs.Tests.{clash}
 use Rattle.cyclic.proofs.Lists.{zeros}
 use Rattle.cyclic.proofs.Space.{pow, pow-X, pow-nil, pow-add, one-turn}
 use Rattle.cyclic.proofs.Registers.{Reg, same-bits, Mod, none, tail}
 use Rattle.cyclic.proofs.Remainders.{remainder-next}
 use Rattle.cyclic.proofs.Facts.{Facts, never}
+use Rattle.cyclic.proofs.Same.{same-equal, same-of}
 use Rattle.cyclic.proofs.Cyclic.{modF, remF, turn-is, g-round}
-
--- two lists that pass the test `same` are equal
-pub same-equal : (u v : List ℕ) → T (same u v) → u ≡ v
-unfolding same
-same-equal [] [] h = refl
-same-equal [] (b ∷ v) h = absurd h
-same-equal (a ∷ u) [] h = absurd h
-same-equal (a ∷ u) (b ∷ v) h =
-    ap₂ {C = List ℕ} (λ x r. x ∷ r) (eqb→eq a b (both-left (eqb a b) (same u v) h)) (same-equal u v (both-right (eqb a b) (same u v) h))
-
--- and a list passes it with itself
-pub same-refl : (u : List ℕ) → T (same u u)
-unfolding same
-same-refl [] = tt
-same-refl (a ∷ u) = both-of (eqb a a) (same u u) (eqb-refl a) (same-refl u)
 
 -- what `never` tests: none of the first k shifts of s is o
 never-is : (d : ℕ) (t s : Reg (suc d)) (o : List ℕ) (k i : ℕ) → T (never (t .of) o (s .of) k) → i < k → pow (Mod d t) i s .of ≡ o → ⊥
@@ -43,16 +30,11 @@ unfolding never pow
 never-is d t s o zero i h l e = absurd (omega arith)
 never-is d t s o (suc k) zero h l e =
     T-not (same (s .of) o) (both-left (not (same (s .of) o)) (never (t .of) o (step (t .of) (s .of) 0) k) h)
-    (subst (λ (x : List ℕ). T (same (s .of) x)) e (same-refl (s .of)))
+    (same-of (s .of) o e)
 never-is d t s o (suc k) (suc i) h l e =
     let M = Mod d t in
     never-is d t (M .X s) o k i (both-right (not (same (s .of) o)) (never (t .of) o (step (t .of) (s .of) 0) k) h) (omega arith)
     (ap (λ (r : Reg (suc d)). r .of) (pow-X M i s) ∙ e)
-
--- a zero more behind zeros
-zeros-last : (k : ℕ) → zeros (suc k) ≡ zeros k ++ (0 ∷ [])
-zeros-last zero = refl
-zeros-last (suc k) = ap {B = List ℕ} (λ r. 0 ∷ r) (zeros-last k)
 
 module _ (F : Numbers) (A : Facts F) where
   -- fewer than n shifts of g never come back
@@ -92,15 +74,15 @@ module _ (F : Numbers) (A : Facts F) where
       fresh-is 1 (lit< tt) (A .many) (ap (pow M 1) zero-g ∙ pow-nil M 1 ∙ sym zero-g)
 
 -- one turn more is one step more
-pub turn-next : (F : Numbers) (s : ℕ) → turnRemainder F (suc s) ≡ step (drop 1 (fOf F)) (turnRemainder F s) 0
+pub turn-next : (F : Numbers) (s : ℕ) → turnRemainder F (s + 1) ≡ step (drop 1 (fOf F)) (turnRemainder F s) 0
 unfolding turnRemainder
 turn-next F s =
-    ap (remainder (fOf F)) (ap (λ (v : List ℕ). gOf F ++ v) (zeros-last s) ∙ sym (append-assoc (gOf F) (zeros s) (0 ∷ [])))
+    ap (remainder (fOf F)) (ap (λ (v : List ℕ). gOf F ++ v) (sym (replicate-append-replicate s 1 0)) ∙ sym (append-assoc (gOf F) (zeros s) (0 ∷ [])))
     ∙ remainder-next (fOf F) (gOf F ++ zeros s) 0
 
 -- a search never answers both a turn and none
 at-nothing : {t : ℕ} → At t ≡ Nothing → ⊥
-at-nothing {t} e = let z : _≡_ {A = ℕ} 0 1 = cc in omega arith
+at-nothing e = clash cc
 
 -- what a search answers is among those searched, and leaves v
 found-among : (F : Numbers) (k s t : ℕ) (v : List ℕ) → turnAmong F k s v ≡ At t → (s ≤ t) × (t < s + k) × (turnRemainder F t ≡ v)
@@ -110,7 +92,7 @@ found-among F (suc k) s t v e = go (same (turnRemainder F s) v) refl (found-amon
   where
     go : (b : Bool) → same (turnRemainder F s) v ≡ b
         → (turnAmong F k (suc s) v ≡ At t → (suc s ≤ t) × (t < suc s + k) × (turnRemainder F t ≡ v))
-        → pickTurn b (At s) (turnAmong F k (suc s) v) ≡ At t → (s ≤ t) × (t < s + suc k) × (turnRemainder F t ≡ v)
+        → cond b (At s) (turnAmong F k (suc s) v) ≡ At t → (s ≤ t) × (t < s + suc k) × (turnRemainder F t ≡ v)
     go true test below e =
         let at : s ≡ t = cc in
         (omega arith, omega arith, ap (turnRemainder F) (sym at) ∙ same-equal (turnRemainder F s) v (subst T (sym test) tt))
@@ -124,11 +106,11 @@ none-among F (suc k) s t v e l h r = go (same (turnRemainder F s) v) refl (none-
   where
     go : (b : Bool) → same (turnRemainder F s) v ≡ b
         → (turnAmong F k (suc s) v ≡ Nothing → suc s ≤ t → t < suc s + k → turnRemainder F t ≡ v → ⊥)
-        → pickTurn b (At s) (turnAmong F k (suc s) v) ≡ Nothing → ⊥
+        → cond b (At s) (turnAmong F k (suc s) v) ≡ Nothing → ⊥
     go true test below e = at-nothing e
     go false test below e =
         let apart : s ≡ t → ⊥ = λ (at : s ≡ t).
-        subst T test (subst (λ (x : List ℕ). T (same (turnRemainder F s) x)) (ap (turnRemainder F) at ∙ r) (same-refl (turnRemainder F s))) in
+        subst T test (same-of (turnRemainder F s) v (ap (turnRemainder F) at ∙ r)) in
         below e (omega arith) (omega arith) r
 
 -- the turn that is answered is below n and leaves v

@@ -1,7 +1,7 @@
 -- The check bits, and the turn of a window from its remainder by f (document 01, "Check bits" and "Search, reading and place").
 -- Assumes nothing.
 use Prim.Native.Nat.{ℕ, zero, suc, _-_}
-use mathlib.Core.Bool.{Bool, true, false}
+use mathlib.Core.Bool.{Bool, true, false, cond}
 use mathlib.Core.List.{List, [], _∷_, _++_}
 use lib.Dec.{eqb}
 use lib.ListN.{length, take, drop, replicate}
@@ -35,14 +35,10 @@ same [] (b ∷ v) = false
 same (a ∷ u) [] = false
 same (a ∷ u) (b ∷ v) = both (eqb a b) (same u v)
 
-abbrev pub pickTurn : Bool → Turn → Turn → Turn
-pickTurn true x y = x
-pickTurn false x y = y
-
 -- the first turn from s on, of the next k, whose remainder by f is v
 unfoldable pub turnAmong : Numbers → ℕ → ℕ → List ℕ → Turn
 turnAmong F zero s v = Nothing
-turnAmong F (suc k) s v = pickTurn (same (turnRemainder F s) v) (At s) (turnAmong F k (suc s) v)
+turnAmong F (suc k) s v = cond (same (turnRemainder F s) v) (At s) (turnAmong F k (suc s) v)
 
 -- the turn, 0 to n-1, whose remainder by f is v, or none
 unfoldable pub turnOf : Numbers → List ℕ → Turn

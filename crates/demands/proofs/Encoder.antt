@@ -83,7 +83,7 @@ module _ (format : Format) (u : List ℕ) where
   -- ---- the search
 
   -- what is found is the first proper pair
-  found-proper : (p : ℕ) → firstPair format u ≡ found p → FirstProper format u (p / 1024) (p % 1024)
+  pub found-proper : (p : ℕ) → firstPair format u ≡ found p → FirstProper format u (p / 1024) (p % 1024)
   unfolding firstPair
   found-proper p e = passing-proper p (first-found (passes format u) 0 pairCount p e)
 
@@ -93,7 +93,7 @@ module _ (format : Format) (u : List ℕ) where
   proper-found B esb f = found-first (passes format u) 0 pairCount (1024 * B + esb) (proper-passing B esb f)
 
   -- where nothing is found none is proper
-  missing-proper : firstPair format u ≡ none → NoneProper format u
+  pub missing-proper : firstPair format u ≡ none → NoneProper format u
   unfolding firstPair
   missing-proper e = none-proper (first-missing (passes format u) 0 pairCount e)
 

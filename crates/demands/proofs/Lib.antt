@@ -1,11 +1,19 @@
--- Demand 2: `Encoder`, and `Reader` by way of `CutAccepted` and `AcceptedCut`. Demand 3: `Demand3`, by way of `Wrote` (a telegram that
--- encode wrote), `Fifteen` (a short window of a long one) and `ThreeRounds` (a long window of a short one).
+-- Demand 1: `Demand1`, by way of `EncodeExact` and `ReadExact`. Demand 2: `Demand2`, by way of `Encoder`, and of `Reader` with
+-- `CutAccepted` and `AcceptedCut`. Demand 3: `Demand3`, by way of `Wrote` (a telegram that encode wrote), `Fifteen` (a short window of a
+-- long one) and `ThreeRounds` (a long window of a short one).
+pub mod Lengths
+pub mod Fronts
 pub mod Encoder
+pub mod EncodeExact
+pub mod ReadExact
+pub mod Demand1
 pub mod CutAccepted
 pub mod AcceptedCut
 pub mod Reader
+pub mod Demand2
 pub mod Wrote
 pub mod Fifteen
 pub mod ThreeRounds
 pub mod Demand3
 pub mod Sheet
+pub mod SomeBlock

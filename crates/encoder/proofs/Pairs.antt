@@ -17,7 +17,7 @@ use Rattle.telegrams.proofs.WellFormed.{made-well-formed}
 use Rattle.conditions.specs.Conditions.{offStep, notRepeating, thinnedOut, proper}
 use Rattle.encoder.specs.declared.search.Search.the-variants.{Pair}
 use Rattle.encoder.specs.Encoding.{telegramAt, passes}
-use Rattle.encoder.specs.Searched.{madeProper, searchOf}
+use Rattle.encoder.specs.Searched.{madeProper, pairOf}
 
 -- ---- the search
 
@@ -64,7 +64,7 @@ module _ (B esb : ℕ) (below : esb < 1024) where
   pair-shaping = omega arith
 
   -- as the search answers it
-  pub pair-searched : searchOf (found (1024 * B + esb)) ≡ Pair B esb
+  pub pair-searched : pairOf (found (1024 * B + esb)) ≡ Pair B esb
   pair-searched = ap₂ Pair pair-scrambling pair-shaping
 
   pub pair-telegram : (format : Format) (u : List ℕ) → telegramAt format u (1024 * B + esb) ≡ telegramOf (numbersOf format) u B esb

@@ -1,6 +1,6 @@
 -- What encoding a block answers, test by test. Assumes nothing.
-use mathlib.Core.Path.{_≡_, refl, ap, _∙_}
-use mathlib.Core.Bool.{Bool, true, false}
+use mathlib.Core.Path.{_≡_, refl, ap}
+use mathlib.Core.Bool.{true, false}
 use mathlib.Core.List.{List, _++_}
 use Prim.Native.Nat.{ℕ, _+_, _*_, _/_, _%_, _≤_, _<_}
 use native.Mathlib.Omega.{arith}
@@ -8,6 +8,7 @@ use borrow.Author.Tests.{le-leb, lt-leb}
 use lib.ListN.{length, drop}
 use Rattle.bits.specs.Bits.{allBits}
 use Rattle.bits.specs.Search.{First, found, none}
+use Rattle.bits.proofs.Tests.{clash}
 use Rattle.formats.specs.declared.format.Format.{Format}
 use Rattle.formats.specs.declared.format.Fit.{Fit}
 use Rattle.formats.specs.declared.format.Fit.the-variants.{As, Nothing}
@@ -19,7 +20,7 @@ use Rattle.telegrams.specs.Telegram.{telegramOf}
 use Rattle.encoder.specs.declared.Encoded.the-variants.{Pair, Refused}
 use Rattle.encoder.specs.declared.search.Search.{Search}
 use Rattle.encoder.specs.Encoding.{pairCount, telegramAt, firstPair, written, encodeAs, encodeFit, encodeOf}
-use Rattle.encoder.specs.Searched.{searchOf}
+use Rattle.encoder.specs.Searched.{pairOf}
 
 -- the length fits no format
 pub length-refused : (u out : List ℕ) → fitOf (long .m) (short .m) (length u) ≡ Nothing → encodeOf u out ≡ outcome (Refused Length) out
@@ -64,7 +65,7 @@ block-size = Fits.size-of blockBits apart
 -- ---- what is written, by the search's answer
 
 -- the first pair is of B and esb, and left is its telegram over the front of the output
-pub pair-written : (format : Format) (u out left : List ℕ) (first : First) (B esb : ℕ) → searchOf first ≡ Search.Pair B esb
+pub pair-written : (format : Format) (u out left : List ℕ) (first : First) (B esb : ℕ) → pairOf first ≡ Search.Pair B esb
     → left ≡ telegramOf (numbersOf format) u B esb ++ drop (numbersOf format .n) out
     → written format u out first ≡ outcome (Pair format B esb (1024 * B + esb + 1)) left
 unfolding telegramAt
@@ -73,14 +74,10 @@ pair-written format u out left (found p) B esb e l =
     let same-esb : p % 1024 ≡ esb = cc in
     let count : p + 1 ≡ 1024 * B + esb + 1 = omega arith in
     rw (l, ← count, ← same-B, ← same-esb)
-pair-written format u out left none B esb e l =
-    let z : _≡_ {A = ℕ} 0 1 = cc in
-    absurd (omega arith)
+pair-written format u out left none B esb e l = clash cc
 
 -- no pair is proper
-pub none-written : (format : Format) (u out : List ℕ) (first : First) → searchOf first ≡ Search.Nothing
+pub none-written : (format : Format) (u out : List ℕ) (first : First) → pairOf first ≡ Search.Nothing
     → written format u out first ≡ outcome (Refused (NoPair pairCount)) out
-none-written format u out (found p) e =
-    let z : _≡_ {A = ℕ} 0 1 = cc in
-    absurd (omega arith)
+none-written format u out (found p) e = clash cc
 none-written format u out none e = refl

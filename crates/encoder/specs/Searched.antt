@@ -19,6 +19,6 @@ madeProper format t =
     both (allWords 10 (drop (numbersOf format .n - 110) t)) (both (offStep format t) (both (notRepeating format t) (thinnedOut format t)))
 
 -- pair p has B = p / 1024 and esb = p % 1024
-abbrev pub searchOf : First → Search
-searchOf (found p) = Pair (p / 1024) (p % 1024)
-searchOf none = Nothing
+abbrev pub pairOf : First → Search
+pairOf (found p) = Pair (p / 1024) (p % 1024)
+pairOf none = Nothing

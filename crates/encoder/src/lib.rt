@@ -6,7 +6,7 @@ ghost use lib.ListN.{length};
 ghost use Rattle.bits.specs.Bits.{allBits};
 ghost use Rattle.formats.specs.Numbers.{numbersOf};
 ghost use Rattle.formats.specs.Outcome.{outcome};
-ghost use Rattle.encoder.specs.Encoding.{firstPair, written, encodeOf};
+ghost use Rattle.encoder.specs.Encoding.{firstPair, written, encodeOf, encodedValues};
 use crate::search::Search;
 use formats::format;
 use formats::format::Fit;
@@ -59,7 +59,8 @@ fn write_first(format: Format, block: &[u8], output: &mut [u8]) -> Encoded
 // The block's telegram over the front of output, with the first pair that gives a proper one. The lowest refusal that
 // applies is given, and a refusal keeps every byte of output.
 pub fn encode(block: &[u8], output: &mut [u8]) -> Encoded
-    ensures { λ r. ⌜ encodeOf (now (block .entry)) (now (output .entry)) ≡ outcome r (now (output .exit)) ⌝ }
+    ensures answers { λ r. ⌜ encodeOf (now (block .entry)) (now (output .entry)) ≡ outcome r (now (output .exit)) ⌝ }
+    ensures numbered { λ r. ⌜ encodedValues r ≡ encodedValues (encodeOf (now (block .entry)) (now (output .entry)) .answer) ⌝ }
 {
     let Fit::As(format) = format::of_length(Long::M, Short::M, block.len()) else {
         return Encoded::Refused(Refusal::Length);

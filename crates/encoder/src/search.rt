@@ -5,7 +5,7 @@ ghost use lib.ListN.{length};
 ghost use Rattle.bits.specs.Bits.{allBits};
 ghost use Rattle.formats.specs.Numbers.{numbersOf};
 ghost use Rattle.encoder.specs.Encoding.{firstPair};
-ghost use Rattle.encoder.specs.Searched.{madeProper, searchOf};
+ghost use Rattle.encoder.specs.Searched.{madeProper, pairOf};
 use formats::format;
 use formats::format::Format;
 use formats::format::Long;
@@ -36,7 +36,7 @@ fn passes(format: Format, telegram: &[u8]) -> bool
 pub fn first_pair(format: Format, block: &[u8]) -> Search
     requires { ⌜ T (allBits (now block)) ⌝ }
     requires { ⌜ length (now block) ≡ numbersOf format .m ⌝ }
-    ensures { λ r. ⌜ r ≡ searchOf (firstPair format (now (block .entry))) ⌝ }
+    ensures { λ r. ⌜ r ≡ pairOf (firstPair format (now (block .entry))) ⌝ }
 {
     let m = block.len();
     let n = format::telegram_bits(format);

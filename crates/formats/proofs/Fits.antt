@@ -1,16 +1,15 @@
 -- The format that a length picks, for any length that the two formats have apart (document 01, "What the bench takes in"). Assumes nothing.
 use Prim.Native.Nat.{ℕ}
 use mathlib.Core.Path.{_≡_, refl, sym, ap, _∙_, subst}
-use mathlib.Core.Bool.{Bool, true, false}
+use mathlib.Core.Bool.{Bool, true, false, cond}
 use mathlib.Core.Logic.{_⊎_, inl, inr}
-use native.Mathlib.Omega.{arith}
 use borrow.Author.Tests.{eq-eqb, eqb-true, eqb-false, ne-eqb}
 use lib.Dec.{eqb}
+use Rattle.bits.proofs.Tests.{clash}
 use Rattle.formats.specs.declared.format.Format.{Format}
 use Rattle.formats.specs.declared.format.Format.the-variants.{Long, Short}
-use Rattle.formats.specs.declared.format.Fit.{Fit}
 use Rattle.formats.specs.declared.format.Fit.the-variants.{As, Nothing}
-use Rattle.formats.specs.Numbers.{Numbers, long, short, numbersOf, pickFit, fitOf}
+use Rattle.formats.specs.Numbers.{Numbers, long, short, numbersOf, fitOf}
 
 module _ (lengthOf : Numbers → ℕ) (apart : lengthOf long ≡ lengthOf short → ⊥) where
   -- the size is that of a format, or of none
@@ -32,11 +31,11 @@ module _ (lengthOf : Numbers → ℕ) (apart : lengthOf long ≡ lengthOf short 
   pub fits-as : (format : Format) (size : ℕ) → size ≡ lengthOf (numbersOf format) → fitOf (lengthOf long) (lengthOf short) size ≡ As format
   unfolding fitOf
   fits-as Long size e =
-      ap (λ (b : Bool). pickFit b (As Long) (pickFit (eqb size (lengthOf short)) (As Short) Nothing)) (eq-eqb size (lengthOf long) e)
+      ap (λ (b : Bool). cond b (As Long) (cond (eqb size (lengthOf short)) (As Short) Nothing)) (eq-eqb size (lengthOf long) e)
   fits-as Short size e =
-      ap (λ (b : Bool). pickFit b (As Long) (pickFit (eqb size (lengthOf short)) (As Short) Nothing))
+      ap (λ (b : Bool). cond b (As Long) (cond (eqb size (lengthOf short)) (As Short) Nothing))
       (ne-eqb size (lengthOf long) (λ f. apart (sym f ∙ e)))
-      ∙ ap (λ (b : Bool). pickFit b (As Short) Nothing) (eq-eqb size (lengthOf short) e)
+      ∙ ap (λ (b : Bool). cond b (As Short) Nothing) (eq-eqb size (lengthOf short) e)
 
   -- any other picks none
   pub fits-none : (size : ℕ) → ((format : Format) → size ≡ lengthOf (numbersOf format) → ⊥) → fitOf (lengthOf long) (lengthOf short) size ≡ Nothing
@@ -54,5 +53,4 @@ module _ (lengthOf : Numbers → ℕ) (apart : lengthOf long ≡ lengthOf short 
           subst (λ (g : Format). size ≡ lengthOf (numbersOf g)) one h
       go (inr none) =
           let nothing = fits-none size none in
-          let z : _≡_ {A = ℕ} 0 1 = cc in
-          absurd (omega arith)
+          clash cc

@@ -1,3 +1,5 @@
 pub mod Fits
+pub mod Lowest
 pub mod Sizes
 pub mod TwoWords
+pub mod Numbered

@@ -1,8 +1,7 @@
 -- A number in two words, high * 2^64 + low, with one binary digit added to it. Assumes nothing.
-use mathlib.Core.Path.{_≡_, refl, sym, ap, ap₂, _∙_}
-use Prim.Native.Nat.{ℕ, _+_, _-_, _*_, _%_, _^_, _<_, _≤_}
-use native.Mathlib.Nat.{one-mul, zero-mul, zero-add, add-zero, mod-eq-of-lt}
-use native.Mathlib.Omega.{arith}
+use mathlib.Core.Path.{_≡_, sym, ap, _∙_}
+use Prim.Native.Nat.{ℕ, _+_, _*_, _%_, _^_, _<_}
+use native.Mathlib.Nat.{one-mul, zero-add, add-zero, mod-eq-of-lt}
 use lib.Bits.{bitXor, xor-block, xor-zero-r}
 use lib.Dec.{lit<}
 use lib.Pow.{pow-lt, pow-add}

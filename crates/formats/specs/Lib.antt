@@ -3,3 +3,4 @@ pub mod Numbers
 pub mod Outcome
 pub mod Refused
 pub mod Value
+pub mod AnswerValues

@@ -1,7 +1,7 @@
 -- The two formats and their fixed numbers (document 01, "What the bench takes in" and "Check bits").
 -- Assumes nothing.
 use Prim.Native.Nat.{ℕ, _+_, _/_}
-use mathlib.Core.Bool.{Bool, true, false}
+use mathlib.Core.Bool.{cond}
 use mathlib.Core.List.{List, [], _∷_}
 use lib.Dec.{eqb}
 use Rattle.formats.specs.declared.format.Format.{Format}
@@ -45,14 +45,9 @@ abbrev pub numbersOf : Format → Numbers
 numbersOf Long = long
 numbersOf Short = short
 
-abbrev pub pickFit : Bool → Fit → Fit → Fit
-pickFit true x y = x
-pickFit false x y = y
-
 -- the input's length picks the format: that of a long one, that of a short one, or neither
 unfoldable pub fitOf : ℕ → ℕ → ℕ → Fit
-fitOf longLength shortLength length =
-    pickFit (eqb length longLength) (As Long) (pickFit (eqb length shortLength) (As Short) Nothing)
+fitOf longSize shortSize size = cond (eqb size longSize) (As Long) (cond (eqb size shortSize) (As Short) Nothing)
 
 -- the blocks of ten user bits, and the bits of a window
 abbrev pub blocks : Numbers → ℕ

@@ -1,18 +1,17 @@
 -- Polynomials over two elements. A list of coefficients, 0 or 1, stands for one, the highest power first;
 -- document 01, "Check bits", gives four of them as short lists of exponents.
 -- Assumes nothing.
-use Prim.Native.Nat.{ℕ, zero, suc, _+_, _-_, _%_, _^_}
+use Prim.Native.Nat.{ℕ, zero, suc, _+_, _-_, _%_}
 use mathlib.Core.Bool.{Bool, true, false}
 use mathlib.Core.List.{List, [], _∷_, _++_}
 use lib.Dec.{eqb}
-use lib.Bits.{bitXor}
 use lib.ListN.{length, replicate}
 
--- 1 where k is among the exponents, else 0
 abbrev pub oneIf : Bool → ℕ → ℕ
 oneIf true other = 1
 oneIf false other = other
 
+-- 1 where k is among the exponents, else 0
 unfoldable pub coefficientOf : ℕ → List ℕ → ℕ
 coefficientOf k [] = 0
 coefficientOf k (e ∷ es) = oneIf (eqb k e) (coefficientOf k es)

@@ -4,6 +4,7 @@ use Prim.Native.Nat.{ℕ}
 use Rattle.formats.specs.declared.refusal.Refusal.{Refusal}
 use Rattle.formats.specs.declared.refusal.Refusal.the-variants.{Length, NotBit, OutputShort, NoPair, Seam, NotDivisible, NoTurn, Control, NotWord, OffStep, Repeating, Thinned, NoPlace}
 
+-- the number of each, in the order of document 01's list
 abbrev pub refusalNumber : Refusal → ℕ
 refusalNumber Length = 1
 refusalNumber NotBit = 2

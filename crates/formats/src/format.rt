@@ -187,14 +187,14 @@ impl Short {
     }
 }
 
-// The format with the given length, of the one that each format asks.
-pub fn of_length(long_length: usize, short_length: usize, length: usize) -> Fit
-    ensures { λ r. ⌜ r ≡ fitOf «long_length» «short_length» length ⌝ }
+// The format that the input's length picks, from the length that each format has for this input.
+pub fn of_length(long: usize, short: usize, size: usize) -> Fit
+    ensures { λ r. ⌜ r ≡ fitOf long short size ⌝ }
 {
-    if length == long_length {
+    if size == long {
         return Fit::As(Format::Long);
     }
-    if length == short_length {
+    if size == short {
         return Fit::As(Format::Short);
     }
     Fit::Nothing

@@ -18,7 +18,7 @@ formatOf false = Short
 
 -- the format's numbers
 abbrev pub numbers : Bool → Numbers
-numbers long = numbersOf (formatOf long)
+numbers isLong = numbersOf (formatOf isLong)
 
 -- the number that a look-up finds, or 1024
 abbrev pub numberOr1024 : Lookup → ℕ

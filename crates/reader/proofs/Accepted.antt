@@ -3,10 +3,10 @@ use mathlib.Core.Path.{_≡_, refl, sym, ap}
 use mathlib.Core.Bool.{Bool, true, false}
 use mathlib.Core.List.{List, _++_}
 use Prim.Native.Nat.{ℕ}
-use native.Mathlib.Omega.{arith}
 use lib.Dec.{leb}
 use lib.ListN.{length, take, drop}
 use Rattle.bits.specs.Bits.{allBits}
+use Rattle.bits.proofs.Tests.{clash}
 use Rattle.formats.specs.declared.format.Format.{Format}
 use Rattle.formats.specs.declared.refusal.Refusal.{Refusal}
 use Rattle.formats.specs.declared.refusal.Refusal.the-variants.{NotBit, OutputShort, Seam, NotDivisible, Control, NotWord}
@@ -27,8 +27,7 @@ use Rattle.reader.specs.Reads.{seamAgrees, isFlipped, turnedBack, telegr
 refused-read : {x : Refusal} {reading : Reading} {out o : List ℕ} → outcome (Refused x) out ≡ outcome (Read reading) o → ⊥
 refused-read e =
     let answers = ap (λ (y : Outcome ReadAnswer). y .answer) e in
-    let z : _≡_ {A = ℕ} 0 1 = cc in
-    omega arith
+    clash cc
 
 -- where a test that might refuse was followed by a reading, the test is passed
 passed : (test : Bool) (x : Refusal) (out : List ℕ) (rest : Outcome ReadAnswer) {reading : Reading} {o : List ℕ}

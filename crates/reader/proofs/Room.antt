@@ -20,7 +20,7 @@ use Rattle.reader.specs.Reads.{seamAgrees, isFlipped, turnedBack, telegr
 use Rattle.reader.proofs.Steps.{length-fits, fits-window}
 
 -- the answer of an outcome
-answerOf : Outcome ReadAnswer → ReadAnswer
+abbrev pub answerOf : Outcome ReadAnswer → ReadAnswer
 answerOf x = x .answer
 
 -- after the same test, refused with the same answer, or going on to the same
@@ -54,7 +54,6 @@ module _ (format : Format) (w out out′ : List ℕ) where
   -- a window of the format's length
   pub answer-room : length w ≡ windowBits (numbersOf format) → numbersOf format .m ≤ length out → numbersOf format .m ≤ length out′
       → readOf w out .answer ≡ readOf w out′ .answer
-  unfolding answerOf
   answer-room size room room′ =
       let fits = fits-window format (length w) size in
       ap answerOf (length-fits format w out fits) ∙ as-room room room′ ∙ sym (ap answerOf (length-fits format w out′ fits))

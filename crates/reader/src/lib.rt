@@ -5,7 +5,7 @@ ghost use lib.ListN.{length};
 ghost use Rattle.bits.specs.Bits.{allBits};
 ghost use Rattle.formats.specs.Numbers.{numbersOf, windowBits};
 ghost use Rattle.formats.specs.Outcome.{outcome};
-ghost use Rattle.reader.specs.Reads.{seamAgrees, readAs, readOf};
+ghost use Rattle.reader.specs.Reads.{seamAgrees, readAs, readOf, readValues};
 use cyclic::Turn;
 use cyclic::divisors;
 use cyclic::remainder;
@@ -71,7 +71,8 @@ pub fn read_bits(format: Format, window: &[u8], output: &mut [u8]) -> ReadAnswer
 
 // Reads a window. Read, output has the user bits in front and keeps the rest; refused, it keeps every byte.
 pub fn read(window: &[u8], output: &mut [u8]) -> ReadAnswer
-    ensures { λ r. ⌜ readOf (now (window .entry)) (now (output .entry)) ≡ outcome r (now (output .exit)) ⌝ }
+    ensures answers { λ r. ⌜ readOf (now (window .entry)) (now (output .entry)) ≡ outcome r (now (output .exit)) ⌝ }
+    ensures numbered { λ r. ⌜ readValues r ≡ readValues (readOf (now (window .entry)) (now (output .entry)) .answer) ⌝ }
 {
     let Fit::As(format) = format::of_length(Long::N + Long::R, Short::N + Short::R, window.len())
     else {

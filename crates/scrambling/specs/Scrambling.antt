@@ -1,7 +1,7 @@
 -- Scrambling by a 32-bit register, and its undoing (document 01, "Scrambling"; source document 000, 2.3.1).
 -- Assumes nothing.
 use Prim.Native.Nat.{ℕ, _+_, _*_, _/_, _%_, _^_}
-use mathlib.Core.Bool.{Bool, true, false}
+use mathlib.Core.Bool.{cond}
 use mathlib.Core.List.{List, [], _∷_}
 use lib.Bits.{bitXor}
 use lib.Dec.{eqb}
@@ -27,13 +27,9 @@ abbrev pub feedback : ℕ
 feedback = 2 ^ 31 + 2 ^ 30 + 2 ^ 29 + 2 ^ 27 + 2 ^ 25 + 2 ^ 0
 
 -- x if the test holds, otherwise y
-abbrev pub pickState : Bool → ℕ → ℕ → ℕ
-pickState true x y = x
-pickState false x y = y
-
 -- the register r after the scrambled bit s: shifted, and, if s is 1, XORed with the feedback
 unfoldable pub nextState : ℕ → ℕ → ℕ
-nextState r s = pickState (eqb s 1) (bitXor (shifted r) feedback) (shifted r)
+nextState r s = cond (eqb s 1) (bitXor (shifted r) feedback) (shifted r)
 
 -- user bits scrambled from the register r on: each scrambled bit is the top bit XOR the next user bit, and the register is fed the scrambled bit
 unfoldable pub scrambledFrom : ℕ → List ℕ → List ℕ

@@ -10,7 +10,6 @@ use lib.ListN.{length, take, drop, length-drop, take-append-drop}
 use Rattle.bits.specs.Bits.{both, allBits}
 use Rattle.bits.proofs.AllBits.{allBits-take, allBits-drop}
 use Rattle.bits.proofs.Both.{both-left, both-right, both-of}
-use Rattle.bits.proofs.Tests.{tests-agree}
 use Rattle.formats.specs.Numbers.{Numbers, fOf, gOf, fgOf}
 use Rattle.formats.proofs.Sizes.{Sizes}
 use Rattle.cyclic.specs.Remainder.{remainder}
@@ -51,7 +50,3 @@ module _ (F : Numbers) (A : Facts F) (S : Sizes F) (b : List ℕ) (bits : T (all
       let one = checked-remainder in
       let two = factors-remainder F A b bits in
       (λ h. two .1 (one .0 h), λ h. one .1 (two .0 h))
-
-  -- as values
-  pub checked-is : checked F b ≡ both (divisible F b) (unturned F b)
-  checked-is = tests-agree (checked F b) (both (divisible F b) (unturned F b)) (checked-factors .0) (checked-factors .1)

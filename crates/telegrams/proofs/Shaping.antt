@@ -26,15 +26,6 @@ wordOfBlock v = bitsOf 11 (wordOf (numberOf (take 10 v)))
 abbrev blockOfWord : List ℕ → List ℕ
 blockOfWord b = bitsOf 10 (numberIn (lookupOf (numberOf (take 11 b))))
 
-pub shaped-suc : (k : ℕ) (v : List ℕ) → shaped (suc k) v ≡ bitsOf 11 (wordOf (numberOf (take 10 v))) ++ shaped k (drop 10 v)
-unfolding shaped
-shaped-suc k v = refl
-
-pub unshaped-suc : (k : ℕ) (b : List ℕ)
-    → unshaped (suc k) b ≡ bitsOf 10 (numberIn (lookupOf (numberOf (take 11 b)))) ++ unshaped k (drop 11 b)
-unfolding unshaped
-unshaped-suc k b = refl
-
 -- ---- lengths and bits
 
 pub length-shaped : (k : ℕ) (v : List ℕ) → length (shaped k v) ≡ 11 * k

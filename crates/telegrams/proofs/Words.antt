@@ -45,10 +45,6 @@ word-number w h = go (lookupOf (numberOf w)) refl h
 
 -- ---- some words
 
-pub allWords-suc : (k : ℕ) (b : List ℕ) → allWords (suc k) b ≡ both (isWord (take 11 b)) (allWords k (drop 11 b))
-unfolding allWords
-allWords-suc k b = refl
-
 pub allWords-first : (k : ℕ) (b : List ℕ) → T (allWords (suc k) b) → T (isWord (take 11 b))
 unfolding allWords
 allWords-first k b h = both-left (isWord (take 11 b)) (allWords k (drop 11 b)) h

@@ -32,5 +32,6 @@ settings B esb = control ++ (bitsOf 12 B ++ bitsOf 10 esb)
 unfoldable pub unchecked : Numbers → List ℕ → ℕ → ℕ → List ℕ
 unchecked F u B esb = shapedData F u B ++ settings B esb
 
+-- the telegram of the block u, B and esb: all of these, and the check bits
 unfoldable pub telegramOf : Numbers → List ℕ → ℕ → ℕ → List ℕ
 telegramOf F u B esb = unchecked F u B esb ++ checkBits F (unchecked F u B esb)

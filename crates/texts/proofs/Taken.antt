@@ -9,6 +9,7 @@ use native.Mathlib.Omega.{arith}
 use lib.Dec.{ltb}
 use lib.ListN.{length, take, drop, length-append, take-append-drop}
 use lib.Seq.{length-take-le, take-at, drop-append-add, drop-drop}
+use Rattle.bits.proofs.Tests.{clash}
 use Rattle.formats.specs.Outcome.{Outcome, outcome}
 use Rattle.texts.specs.declared.reading.Character.{Character}
 use Rattle.texts.specs.declared.reading.Character.the-variants.{Bit, Skipped, Other}
@@ -77,7 +78,7 @@ over-over s v old h =
 counted : (t : Taken) (n : ℕ) (buffer old : List ℕ) → outcome (Count n) buffer ≡ kept t old
     → (s : List ℕ) × (t ≡ good s) × (n ≡ length s) × (buffer ≡ over s old)
 counted (good s) n buffer old e = (s, refl, cc (ap (λ (o : Outcome Progress). o .answer) e), ap (λ (o : Outcome Progress). o .output) e)
-counted (bad s) n buffer old e = let z : _≡_ {A = ℕ} 0 1 = cc (ap (λ (o : Outcome Progress). o .answer) e) in absurd (omega arith)
+counted (bad s) n buffer old e = clash (cc (ap (λ (o : Outcome Progress). o .answer) e))
 
 pub counted-within : (t : Taken) (n : ℕ) (buffer old : List ℕ) → outcome (Count n) buffer ≡ kept t old → n ≤ length buffer
 counted-within t n buffer old e =
@@ -99,7 +100,7 @@ kept-more limit t n buffer old more e k =
 
 -- a bad text is bad with any text more
 pub kept-bad : (limit : ℕ) (t : Taken) (buffer old more : List ℕ) → outcome Bad buffer ≡ kept t old → outcome Bad buffer ≡ kept (taken limit t more) old
-kept-bad limit (good s) buffer old more e = let z : _≡_ {A = ℕ} 0 1 = cc (ap (λ (o : Outcome Progress). o .answer) e) in absurd (omega arith)
+kept-bad limit (good s) buffer old more e = clash (cc (ap (λ (o : Outcome Progress). o .answer) e))
 kept-bad limit (bad s) buffer old more e = e ∙ ap (λ (x : Taken). kept x old) (sym (taken-bad limit s more))
 
 -- a byte that is no character

@@ -3,8 +3,8 @@ use Prim.Native.Nat.{ℕ}
 use mathlib.Core.Path.{_≡_}
 use mathlib.Core.List.{List}
 use Rattle.formats.specs.Outcome.{Outcome}
-use Rattle.texts.specs.declared.input.Turn.{Turn}
-use Rattle.texts.specs.declared.input.Turn.the-variants.{More, End, Bad}
+use Rattle.texts.specs.declared.input.OneRead.{OneRead}
+use Rattle.texts.specs.declared.input.OneRead.the-variants.{More, End, Bad}
 use Rattle.texts.specs.declared.reading.Progress.{Progress}
 use Rattle.texts.specs.declared.reading.Progress.the-variants.{Count}
 use Rattle.texts.specs.declared.reading.Progress.the-variants.{Bad as Bad-text}
@@ -14,8 +14,8 @@ use Rattle.texts.specs.Reading.{takenInto}
 abbrev pub OfSomeText : Outcome Progress → ℕ → List ℕ → Type 0
 OfSomeText o count old = (text : List ℕ) × (o ≡ takenInto old count text)
 
--- the progress after a turn that began with count bits
-abbrev pub turned : ℕ → Turn → Progress
-turned count (More n) = Count n
-turned count End = Count count
-turned count Bad = Bad-text
+-- the progress after one read that began with count bits
+abbrev pub progressAfter : ℕ → OneRead → Progress
+progressAfter count (More n) = Count n
+progressAfter count End = Count count
+progressAfter count Bad = Bad-text

@@ -4,7 +4,7 @@ use mathlib.Core.Bool.{cond}
 use mathlib.Core.List.{List, [], _∷_}
 use lib.Dec.{eqb}
 
--- character 0 for bit 0, character 1 for bit 1, and for a byte that is no bit
+-- character 0 for bit 0, character 1 for bit 1 and for a byte that is no bit
 abbrev pub characterFor : ℕ → ℕ
 characterFor b = cond (eqb b 0) 48 49
 

@@ -1,7 +1,7 @@
 -- The inverse table, with which the code's ranks are compared: made from the table by one walk over the 2,048 words, since the
 -- table rises; its entry at a word tells what looking the word up finds. Assumes nothing.
 use mathlib.Core.Path.{_≡_, refl, ap, sym, _∙_, subst}
-use mathlib.Core.Bool.{Bool, true, false}
+use mathlib.Core.Bool.{Bool, true, false, cond}
 use mathlib.Core.List.{List, [], _∷_}
 use Prim.Native.Nat.{ℕ, zero, suc, _+_, _≤_, _<_}
 use native.Mathlib.Nat.{le-of-suc-le-suc, not-suc-le-zero}
@@ -12,29 +12,25 @@ use borrow.Author.Tests.{eqb-true, eqb-false, lt-ltb, le-ltb}
 use Rattle.words.specs.declared.Lookup.{Lookup}
 use Rattle.words.specs.declared.Lookup.the-variants.{Number, NotInTable}
 use Rattle.words.specs.Table.{table}
-use Rattle.words.specs.Words.{lookupFrom, lookupOf, pickLookup}
+use Rattle.words.specs.Words.{lookupFrom, lookupOf}
 use Rattle.words.proofs.Lists.{rises, rises-first, rises-rest, rises-from}
 use Rattle.words.proofs.Rules.{table-length, table-rises}
 use Rattle.words.proofs.Numbers.{found-here, found-later, too-low}
 
 -- what the entry n of the inverse table says
 abbrev pub says : ℕ → Lookup
-says n = pickLookup (ltb n 1024) (Number n) NotInTable
+says n = cond (ltb n 1024) (Number n) NotInTable
 
 says-number : (n : ℕ) → n < 1024 → says n ≡ Number n
-says-number n h = ap (λ (b : Bool). pickLookup b (Number n) NotInTable) (lt-ltb n 1024 h)
+says-number n h = ap (λ (b : Bool). cond b (Number n) NotInTable) (lt-ltb n 1024 h)
 
 says-none : (n : ℕ) → 1024 ≤ n → says n ≡ NotInTable
-says-none n h = ap (λ (b : Bool). pickLookup b (Number n) NotInTable) (le-ltb n 1024 h)
+says-none n h = ap (λ (b : Bool). cond b (Number n) NotInTable) (le-ltb n 1024 h)
 
 -- the word w is the first entry of l
 abbrev headIs : ℕ → List ℕ → Bool
 headIs w [] = false
 headIs w (x ∷ xs) = eqb x w
-
-abbrev pick : Bool → ℕ → ℕ → ℕ
-pick true a b = a
-pick false a b = b
 
 abbrev restIf : Bool → List ℕ → List ℕ
 restIf true [] = []
@@ -48,7 +44,7 @@ above w x xs t p = omega (arith, rises-first w x xs t, eqb-false x w p)
 unfoldable pub inverseFrom : ℕ → ℕ → ℕ → List ℕ → List ℕ
 inverseFrom zero w i l = []
 inverseFrom (suc c) w i l =
-    pick (headIs w l) i 1024 ∷ inverseFrom c (suc w) (pick (headIs w l) (suc i) i) (restIf (headIs w l) l)
+    cond (headIs w l) i 1024 ∷ inverseFrom c (suc w) (cond (headIs w l) (suc i) i) (restIf (headIs w l) l)
 
 unfoldable pub inverse : List ℕ
 inverse = inverseFrom 2048 0 0 table
@@ -57,7 +53,7 @@ abbrev Tells : ℕ → ℕ → ℕ → List ℕ → ℕ → Type 0
 Tells c w i l j = lookupFrom i l (w + j) ≡ says (getD (inverseFrom c w i l) j 0)
 
 first : (w i x : ℕ) (xs : List ℕ) → T (rises w (x ∷ xs)) → i + length (x ∷ xs) ≤ 1024
-    → (b : Bool) → eqb x w ≡ b → lookupFrom i (x ∷ xs) (w + 0) ≡ says (pick b i 1024)
+    → (b : Bool) → eqb x w ≡ b → lookupFrom i (x ∷ xs) (w + 0) ≡ says (cond b i 1024)
 first w i x xs t r true p =
     let e : x ≡ w = eqb-true x w p in
     found-here i x xs (w + 0) (omega arith) ∙ sym (says-number i (omega arith))
@@ -68,7 +64,7 @@ first w i x xs t r false p =
 later : (c w i x : ℕ) (xs : List ℕ) → T (rises w (x ∷ xs)) → i + length (x ∷ xs) ≤ 1024 → (j : ℕ)
     → ((i′ : ℕ) (l : List ℕ) → T (rises (suc w) l) → i′ + length l ≤ 1024 → Tells c (suc w) i′ l j)
     → (b : Bool) → eqb x w ≡ b
-    → lookupFrom i (x ∷ xs) (w + suc j) ≡ says (getD (inverseFrom c (suc w) (pick b (suc i) i) (restIf b (x ∷ xs))) j 0)
+    → lookupFrom i (x ∷ xs) (w + suc j) ≡ says (getD (inverseFrom c (suc w) (cond b (suc i) i) (restIf b (x ∷ xs))) j 0)
 later c w i x xs t r j ih true p =
     let e : x ≡ w = eqb-true x w p in
     let next : w + suc j ≡ suc w + j = omega arith in
@@ -105,7 +101,7 @@ inverse-none w h p = sym (inverse-tells w h ∙ says-none (getD inverse w 0) p)
 from-length : (c w i : ℕ) (l : List ℕ) → length (inverseFrom c w i l) ≡ c
 unfolding inverseFrom
 from-length zero w i l = refl
-from-length (suc c) w i l = ap suc (from-length c (suc w) (pick (headIs w l) (suc i) i) (restIf (headIs w l) l))
+from-length (suc c) w i l = ap suc (from-length c (suc w) (cond (headIs w l) (suc i) i) (restIf (headIs w l) l))
 
 pub inverse-length : length inverse ≡ 2048
 unfolding inverse

@@ -1,7 +1,7 @@
 -- The number of a word, found by walking the table: it is the number whose word this is, and a word that is no entry has none.
 -- Assumes nothing.
 use mathlib.Core.Path.{_≡_, refl, ap, _∙_}
-use mathlib.Core.Bool.{Bool, true, false}
+use mathlib.Core.Bool.{Bool, true, false, cond}
 use mathlib.Core.List.{List, [], _∷_}
 use Prim.Native.Nat.{ℕ, zero, suc, _+_, _≤_, _<_}
 use native.Mathlib.Nat.{le-of-suc-le-suc, not-suc-le-zero}
@@ -12,18 +12,18 @@ use borrow.Author.Tests.{eq-eqb, ne-eqb, eqb-true}
 use Rattle.words.specs.declared.Lookup.{Lookup}
 use Rattle.words.specs.declared.Lookup.the-variants.{Number, NotInTable}
 use Rattle.words.specs.Table.{table}
-use Rattle.words.specs.Words.{wordOf, lookupFrom, lookupOf, pickLookup}
+use Rattle.words.specs.Words.{wordOf, lookupFrom, lookupOf}
 use Rattle.words.proofs.Lists.{rises, rises-first, rises-rest, rises-least}
 use Rattle.words.proofs.Rules.{table-length, table-rises, within, word-bits}
 
 -- the first entry is the word, or is another
 pub found-here : (i x : ℕ) (xs : List ℕ) (w : ℕ) → x ≡ w → lookupFrom i (x ∷ xs) w ≡ Number i
 unfolding lookupFrom
-found-here i x xs w e = ap (λ (b : Bool). pickLookup b (Number i) (lookupFrom (suc i) xs w)) (eq-eqb x w e)
+found-here i x xs w e = ap (λ (b : Bool). cond b (Number i) (lookupFrom (suc i) xs w)) (eq-eqb x w e)
 
 pub found-later : (i x : ℕ) (xs : List ℕ) (w : ℕ) → (x ≡ w → ⊥) → lookupFrom i (x ∷ xs) w ≡ lookupFrom (suc i) xs w
 unfolding lookupFrom
-found-later i x xs w d = ap (λ (b : Bool). pickLookup b (Number i) (lookupFrom (suc i) xs w)) (ne-eqb x w d)
+found-later i x xs w d = ap (λ (b : Bool). cond b (Number i) (lookupFrom (suc i) xs w)) (ne-eqb x w d)
 
 -- a word below every entry has no number
 pub too-low : (k i : ℕ) (l : List ℕ) (w : ℕ) → T (rises k l) → w < k → lookupFrom i l w ≡ NotInTable
@@ -57,7 +57,7 @@ entry i [] w n e = let z : _≡_ {A = ℕ} 0 1 = cc in absurd (omega arith)
 entry i (x ∷ xs) w n e = go (entry (suc i) xs w n) (eqb x w) refl e
   where
     go : (lookupFrom (suc i) xs w ≡ Number n → Entry (suc i) n w xs)
-        → (b : Bool) → eqb x w ≡ b → pickLookup b (Number i) (lookupFrom (suc i) xs w) ≡ Number n → Entry i n w (x ∷ xs)
+        → (b : Bool) → eqb x w ≡ b → cond b (Number i) (lookupFrom (suc i) xs w) ≡ Number n → Entry i n w (x ∷ xs)
     go ih true p q =
         let same : i ≡ n = cc in
         record { place = 0; counted = omega arith; inside = omega arith; entry = eqb-true x w p }

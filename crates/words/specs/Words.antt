@@ -1,7 +1,7 @@
 -- The words (document 01, "Words"): the word of a number, the number of a word, and the barred words.
 -- Assumes nothing.
 use Prim.Native.Nat.{ℕ, zero, suc, _/_, _%_, _^_}
-use mathlib.Core.Bool.{Bool, true, false}
+use mathlib.Core.Bool.{Bool, true, false, cond}
 use mathlib.Core.List.{List, [], _∷_}
 use lib.Dec.{eqb, ltb}
 use lib.ListN.{getD}
@@ -14,14 +14,10 @@ use Rattle.words.specs.Table.{table}
 unfoldable pub wordOf : ℕ → ℕ
 wordOf i = getD table i 0
 
-abbrev pub pickLookup : Bool → Lookup → Lookup → Lookup
-pickLookup true a b = a
-pickLookup false a b = b
-
 -- the place of the word w in the list, counted from i
 unfoldable pub lookupFrom : ℕ → List ℕ → ℕ → Lookup
 lookupFrom i [] w = NotInTable
-lookupFrom i (x ∷ xs) w = pickLookup (eqb x w) (Number i) (lookupFrom (suc i) xs w)
+lookupFrom i (x ∷ xs) w = cond (eqb x w) (Number i) (lookupFrom (suc i) xs w)
 
 -- the number of the word w, found by walking the table from the front
 unfoldable pub lookupOf : ℕ → Lookup

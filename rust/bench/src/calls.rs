@@ -56,88 +56,91 @@ fn telegrams(random: &mut Random, format: Format) -> Vec<Vec<u8>> {
         .collect()
 }
 
+/// Prints the lines of encoding for a format.
+fn encode_lines(random: &mut Random, format: Format) {
+    let blocks: Vec<Vec<u8>> = (0..BLOCKS)
+        .map(|_| random.bits(format.user_bits()))
+        .collect();
+    let (ours, plain) = encode(&blocks);
+    let (our_mean, our_worst) = mean_and_worst(&ours);
+    let (plain_mean, plain_worst) = mean_and_worst(&plain);
+    let name = format!("encode, {}, mean", format.name());
+    print(&name, our_mean, plain_mean, "at most 1.0");
+    let name = format!("encode, {}, worst block", format.name());
+    print(&name, our_worst, plain_worst, "at most 1.0");
+}
+
+/// Prints the line of checking for a format.
+fn check_line(random: &mut Random, proper: &[Vec<u8>], format: Format) {
+    let inputs: Vec<Vec<u8>> = (0..SETS * INPUTS)
+        .map(|_| proper[random.below(TELEGRAMS)].clone())
+        .collect();
+    let ours = |i| {
+        for telegram in set(&inputs, i) {
+            black_box(balise::check(black_box(telegram))).expect("a proper telegram");
+        }
+    };
+    let plain = |i| {
+        for telegram in set(&inputs, i) {
+            black_box(plain::check(black_box(telegram))).expect("a proper telegram");
+        }
+    };
+    let name = format!("check, {}", format.name());
+    line(&name, INPUTS, "at most 1.5", ours, plain);
+}
+
+/// Prints the line of reading for a format: windows at any turn, half of them
+/// flipped. Plain Rust and the second program read them alike.
+fn read_line(random: &mut Random, proper: &[Vec<u8>], format: Format) {
+    let inputs: Vec<Vec<u8>> = (0..SETS * INPUTS)
+        .map(|i| {
+            let telegram = &proper[random.below(TELEGRAMS)];
+            let turn = random.below(format.telegram_bits());
+            cut(telegram, turn, format.window_bits(), i % 2 == 1)
+        })
+        .collect();
+    let (mut out, mut plain_out, mut second_out) = ([0; 830], [0; 830], [0; 830]);
+    for window in set(&inputs, 0) {
+        let expected = second::read(window, &mut second_out);
+        assert_eq!(plain::read(window, &mut plain_out), expected);
+        assert_eq!(plain_out, second_out);
+    }
+    let ours = |i| {
+        for window in set(&inputs, i) {
+            black_box(balise::read(black_box(window), &mut out)).expect("a reading");
+            black_box(&out);
+        }
+    };
+    let plain = |i| {
+        for window in set(&inputs, i) {
+            black_box(plain::read(black_box(window), &mut plain_out)).expect("a reading");
+            black_box(&plain_out);
+        }
+    };
+    let name = format!("read, {}", format.name());
+    line(&name, INPUTS, "at most 1.5", ours, plain);
+}
+
 pub fn calls() {
+    let mut random = Random::new(2);
     println!();
-    println!("The calls; plain is the second program's, and of read plain Rust with the same");
-    println!("algorithm. Encoding: microseconds a block, over {BLOCKS} random blocks of each");
-    println!("format, the less of {TRIES} times.");
+    println!(
+        "The calls. Encoding: microseconds a block, over {BLOCKS} random blocks of each format,"
+    );
+    println!("the less of {TRIES} times; plain is the second program's.");
     println!();
     heading();
-    let mut random = Random::new(2);
     for format in FORMATS {
-        let blocks: Vec<Vec<u8>> = (0..BLOCKS)
-            .map(|_| random.bits(format.user_bits()))
-            .collect();
-        let (ours, plain) = encode(&blocks);
-        let (our_mean, our_worst) = mean_and_worst(&ours);
-        let (plain_mean, plain_worst) = mean_and_worst(&plain);
-        let name = format.name();
-        print(
-            &format!("encode, {name}, mean"),
-            our_mean,
-            plain_mean,
-            "at most 1.0",
-        );
-        print(
-            &format!("encode, {name}, worst block"),
-            our_worst,
-            plain_worst,
-            "at most 1.0",
-        );
+        encode_lines(&mut random, format);
     }
     println!();
     println!("Nanoseconds a call, medians as above: proper telegrams, and windows of them cut");
-    println!("at any turn, half of them flipped.");
+    println!("at any turn, half of them flipped; plain is plain Rust with the same algorithm.");
     println!();
     heading();
     for format in FORMATS {
         let proper = telegrams(&mut random, format);
-        let inputs: Vec<Vec<u8>> = (0..SETS * INPUTS)
-            .map(|_| proper[random.below(TELEGRAMS)].clone())
-            .collect();
-        line(
-            &format!("check, {}", format.name()),
-            INPUTS,
-            "at most 1.5",
-            |i| {
-                for telegram in set(&inputs, i) {
-                    black_box(balise::check(black_box(telegram))).expect("a proper telegram");
-                }
-            },
-            |i| {
-                for telegram in set(&inputs, i) {
-                    black_box(plain::check(black_box(telegram))).expect("a proper telegram");
-                }
-            },
-        );
-        let inputs: Vec<Vec<u8>> = (0..SETS * INPUTS)
-            .map(|i| {
-                let turn = random.below(format.telegram_bits());
-                cut(
-                    &proper[random.below(TELEGRAMS)],
-                    turn,
-                    format.window_bits(),
-                    i % 2 == 1,
-                )
-            })
-            .collect();
-        let (mut out, mut plain_out) = ([0; 830], [0; 830]);
-        line(
-            &format!("read, {}", format.name()),
-            INPUTS,
-            "at most 1.5",
-            |i| {
-                for window in set(&inputs, i) {
-                    black_box(balise::read(black_box(window), &mut out)).expect("a reading");
-                    black_box(&out);
-                }
-            },
-            |i| {
-                for window in set(&inputs, i) {
-                    black_box(plain::read(black_box(window), &mut plain_out)).expect("a reading");
-                    black_box(&plain_out);
-                }
-            },
-        );
+        check_line(&mut random, &proper, format);
+        read_line(&mut random, &proper, format);
     }
 }

@@ -37,6 +37,9 @@ struct Inputs {
     telegrams: Vec<Vec<u8>>,
 }
 
+/// Draws the words of a long telegram.
+type Draw = fn(&mut Random) -> Vec<u16>;
+
 impl Inputs {
     fn new(seed: u64) -> Inputs {
         let mut random = Random::new(seed);
@@ -58,8 +61,7 @@ impl Inputs {
                     .push(drawn(&mut self.random, format, draw, accept));
             }
         }
-        let draws: [(fn(&mut Random) -> Vec<u16>, u8); 2] =
-            [(repeating_words, 11), (thinning_words, 12)];
+        let draws = [(repeating_words as Draw, 11), (thinning_words, 12)];
         for (draw, number) in draws {
             let format = Format::Long;
             let accept = |t: &[u8]| well_formed(t, format) && second::check(t) == Err(number);

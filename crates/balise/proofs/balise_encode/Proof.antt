@@ -3,7 +3,7 @@ use mathlib.Core.Path.{sym, ap, _∙_}
 use borrow.Author.Needs.{needs}
 use Rattle.formats.specs.Outcome.{Outcome}
 use Rattle.encoder.specs.declared.Encoded.{Encoded}
-use Rattle.balise.specs.Packed.{packedEncoded}
+use Rattle.balise.specs.AsNumber.{encodedAsNumber}
 use Rattle.balise.proofs.balise_encode.Statement.{statement}
 use Rattle.balise.proofs.balise_encode.Tie as tie
 
@@ -18,8 +18,8 @@ same-length c = search needs
 
 returns : tie.Need-returns
 returns c =
-    let e = sym (c .before .before .before .encode .ensures) in (
-      c .encoded .ensures ∙ ap (λ (o : Outcome Encoded). packedEncoded (o .answer)) e,
+    let e = sym (c .before .before .before .encode .ensures .0) in (
+      c .encoded .ensures ∙ ap (λ (o : Outcome Encoded). encodedAsNumber (o .answer)) e,
       ap (λ (o : Outcome Encoded). o .output) e,
     )
 

@@ -3,7 +3,7 @@ use mathlib.Core.Path.{sym, ap, _∙_}
 use borrow.Author.Needs.{needs}
 use Rattle.formats.specs.Outcome.{Outcome}
 use Rattle.reader.specs.declared.ReadAnswer.{ReadAnswer}
-use Rattle.balise.specs.Packed.{packedRead}
+use Rattle.balise.specs.AsNumber.{readAsNumber}
 use Rattle.balise.proofs.Answers.{turn-fits}
 use Rattle.balise.proofs.balise_read.Statement.{statement}
 use Rattle.balise.proofs.balise_read.Tie as tie
@@ -12,15 +12,15 @@ read-requires : tie.Need-read-requires
 read-requires c κs = search needs
 
 read-requires-2 : tie.Need-read-requires-2
-read-requires-2 c κs = turn-fits _ _ _ _ (c .before .before .read .ensures)
+read-requires-2 c κs = turn-fits _ _ _ _ (c .before .before .read .ensures .0)
 
 same-length : tie.Need-same-length
 same-length c = search needs
 
 returns : tie.Need-returns
 returns c =
-    let e = sym (c .before .before .before .read .ensures) in (
-      c .read2 .ensures ∙ ap (λ (o : Outcome ReadAnswer). packedRead (o .answer)) e,
+    let e = sym (c .before .before .before .read .ensures .0) in (
+      c .read2 .ensures ∙ ap (λ (o : Outcome ReadAnswer). readAsNumber (o .answer)) e,
       ap (λ (o : Outcome ReadAnswer). o .output) e,
     )
 

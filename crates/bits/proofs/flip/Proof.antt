@@ -1,11 +1,10 @@
 -- `bits::flip` meets its contract. The loop's invariant: the flip of the bits passed is written. Assumes nothing.
 use mathlib.Core.Path.{_≡_, refl, sym, ap, _∙_}
 use mathlib.Core.List.{List, [], _∷_, _++_, append-nil}
-use Prim.Native.Nat.{ℕ, suc, _+_, _≤_, _<_, _-_}
+use Prim.Native.Nat.{ℕ, _+_, _≤_, _<_, _-_}
 use native.Mathlib.Omega.{arith}
-use lib.Dec.{T}
-use lib.ListN.{length, getD, take, drop, set}
-use Rattle.bits.specs.Bits.{allBits, flip}
+use lib.ListN.{length, getD, drop}
+use Rattle.bits.specs.Bits.{flip}
 use Rattle.bits.proofs.AllBits.{allBits-getD}
 use Rattle.bits.proofs.Rest.{rest-more, rest-done}
 use Rattle.bits.proofs.Writer.{Written, written-none, written-more, written-done, written-next}

@@ -1,14 +1,13 @@
 -- `bits::number` meets its contract. The loop's invariant: the number of the k bits is that of the bits passed, x, and then the rest. Assumes nothing.
-use mathlib.Core.Path.{_≡_, refl, sym, ap, _∙_}
-use mathlib.Core.List.{List, [], _∷_}
-use Prim.Native.Nat.{ℕ, suc, _+_, _*_, _≤_, _<_, _-_, _^_}
+use mathlib.Core.Path.{_≡_, sym, ap, _∙_}
+use mathlib.Core.List.{List}
+use Prim.Native.Nat.{ℕ, _+_, _*_, _≤_, _<_, _-_, _^_}
 use native.Mathlib.Nat.{pow-suc, le-of-lt}
 use native.Mathlib.Numerals.{add-one}
 use native.Mathlib.Omega.{arith}
-use lib.Dec.{T}
 use lib.ListN.{length, getD, take, drop}
 use lib.Pow.{pow-mono}
-use Rattle.bits.specs.Bits.{allBits, numberFrom, numberOf}
+use Rattle.bits.specs.Bits.{numberFrom, numberOf}
 use Rattle.bits.proofs.AllBits.{allBits-getD}
 use Rattle.bits.proofs.Rest.{part-more, part-done}
 use Rattle.bits.proofs.number.Statement.{statement}

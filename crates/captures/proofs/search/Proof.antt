@@ -8,7 +8,8 @@ use borrow.Author.Tests.{not-true, not-false}
 use lib.ListN.{length}
 use Rattle.bits.specs.Bits.{allBits}
 use Rattle.bits.proofs.Tests.{holds}
-use Rattle.captures.specs.Captures.{captureLimit}
+use Rattle.formats.proofs.Numbered.{answer-numbered}
+use Rattle.captures.specs.Captures.{captureLimit, captureValues}
 use Rattle.captures.proofs.Answers.{over-limit, not-bits}
 use Rattle.captures.proofs.Passing.{Passed, pass, long-read, short-read, all-passed}
 use Rattle.captures.proofs.search.Statement.{statement}
@@ -22,7 +23,7 @@ abbrev μ-loop : tie.MeasureT-loop
 μ-loop capture shortest place₀ place = length capture - place
 
 returns : tie.Need-returns Inv-loop μ-loop
-returns c = sym (over-limit (c .before .before .args .capture .now) (omega arith))
+returns c = answer-numbered captureValues _ _ (sym (over-limit (c .before .before .args .capture .now) (omega arith)))
 
 all-bits-requires : tie.Need-all-bits-requires Inv-loop μ-loop
 all-bits-requires c κs = search needs
@@ -30,8 +31,9 @@ all-bits-requires c κs = search needs
 returns-2 : tie.Need-returns-2 Inv-loop μ-loop
 returns-2 c =
     let call = c .before in
-    sym
-    (not-bits (call .before .before .before .args .capture .now) (omega arith) (sym (call .all-bits .ensures) ∙ not-true _ (c .if2 .taken)))
+    answer-numbered captureValues _ _
+    (sym
+    (not-bits (call .before .before .before .args .capture .now) (omega arith) (sym (call .all-bits .ensures) ∙ not-true _ (c .if2 .taken))))
 
 -- the capture is within the limit, and all bits
 limited : (c : tie.Else2 Inv-loop μ-loop) → length (c .before .before .before .before .args .capture .now) ≤ captureLimit
@@ -63,9 +65,10 @@ returns-3 c =
     let l = call .before .before in
     let known = l .before .before in
     let s = known .before .before .before .before .args .capture .now in
-    sym
+    answer-numbered captureValues _ _
+    (sym
     (long-read s (l .loop .place) (l .loop .inv .1) (limited known) (bits known) (c .before .reading .given .0 .0)
-    (sym (call .attempt .ensures) ∙ c .before .reading .given .1))
+    (sym (call .attempt .ensures) ∙ c .before .reading .given .1)))
 
 enum-told : tie.Need-enum-told Inv-loop μ-loop
 enum-told c = search needs
@@ -86,10 +89,11 @@ returns-4 c =
     let l = told .before .before .before .before in
     let known = l .before .before in
     let s = known .before .before .before .before .args .capture .now in
-    sym
+    answer-numbered captureValues _ _
+    (sym
     (short-read s (l .loop .place) (l .loop .inv .1) (limited known) (bits known) (told .enum-told .given .0 .0) (c .before .reading2 .given .0 .0)
     (sym (told .before .before .attempt .ensures) ∙ told .enum-told .given .1)
-    (sym (call .attempt2 .ensures) ∙ c .before .reading2 .given .1))
+    (sym (call .attempt2 .ensures) ∙ c .before .reading2 .given .1)))
 
 enum-told-2 : tie.Need-enum-told-2 Inv-loop μ-loop
 enum-told-2 c = search needs
@@ -117,7 +121,8 @@ returns-5 c =
     let l = c .before in
     let known = l .before .before in
     let s = known .before .before .before .before .args .capture .now in
-    sym (all-passed s (l .loop .place) (l .loop .inv .1) (limited known) (bits known) (omega arith))
+    answer-numbered captureValues _ _
+    (sym (all-passed s (l .loop .place) (l .loop .inv .1) (limited known) (bits known) (omega arith)))
 
 pub search-spec : {M : Type 1} → statement M
 search-spec =

@@ -28,12 +28,12 @@ returns c =
     let told = c .before in
     let call = told .before .before in
     sym
-    (stretch-none (call .before .before .args .capture .now) (told .enum-told .given .0 .0) (sym (call .search .ensures) ∙ told .enum-told .given .1))
+    (stretch-none (call .before .before .args .capture .now) (told .enum-told .given .0 .0) (sym (call .search .ensures .0) ∙ told .enum-told .given .1))
 
 -- the place and the reading that the search found
 found-there : (c : tie.After-place) →
     searchOf (c .before .before .before .before .args .capture .now) ≡ Found (c .place .given .0 .0) (c .place .given .0 .1 .0)
-found-there c = sym (c .before .before .search .ensures) ∙ c .place .given .1
+found-there c = sym (c .before .before .search .ensures .0) ∙ c .place .given .1
 
 -- the window there is whole
 fits : (c : tie.After-window-bits) →

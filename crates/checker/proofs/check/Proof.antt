@@ -6,6 +6,8 @@ use lib.ListN.{length}
 use Rattle.bits.proofs.Tests.{holds}
 use Rattle.formats.specs.declared.format.Fit.the-variants.{As}
 use Rattle.formats.specs.Numbers.{long, short, fitOf}
+use Rattle.formats.proofs.Numbered.{answer-numbered}
+use Rattle.checker.specs.Checking.{checkedValues}
 use Rattle.checker.proofs.Lengths.{size-of}
 use Rattle.checker.proofs.Steps.{length-refused, length-fits, bits-refused}
 use Rattle.checker.proofs.check.Statement.{statement}
@@ -21,7 +23,7 @@ enum-told : tie.Need-enum-told
 enum-told c = search needs
 
 returns : tie.Need-returns
-returns c = sym (length-refused _ (sym (c .before .before .of-length .ensures) ∙ c .enum-told .given .1))
+returns c = answer-numbered checkedValues _ _ (sym (length-refused _ (sym (c .before .before .of-length .ensures) ∙ c .enum-told .given .1)))
 
 -- the length fits the format that was found
 fitted : (c : tie.After-format)
@@ -33,8 +35,9 @@ all-bits-requires c κs = search needs
 
 returns-2 : tie.Need-returns-2
 returns-2 c =
-    sym (length-fits _ _ (fitted (c .before .before .before))
-    ∙ bits-refused _ _ (sym (c .before .all-bits .ensures) ∙ not-true _ (c .if1 .taken)))
+    answer-numbered checkedValues _ _
+    (sym (length-fits _ _ (fitted (c .before .before .before))
+    ∙ bits-refused _ _ (sym (c .before .all-bits .ensures) ∙ not-true _ (c .if1 .taken))))
 
 check-form-requires : tie.Need-check-form-requires
 check-form-requires c κs = (
@@ -43,7 +46,7 @@ check-form-requires c κs = (
 )
 
 returns-3 : tie.Need-returns-3
-returns-3 c = c .check-form .ensures ∙ sym (length-fits _ _ (fitted (c .before .before .before .before)))
+returns-3 c = answer-numbered checkedValues _ _ (c .check-form .ensures ∙ sym (length-fits _ _ (fitted (c .before .before .before .before))))
 
 pub check-spec : {M : Type 1} → statement M
 check-spec =

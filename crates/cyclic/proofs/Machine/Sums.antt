@@ -12,7 +12,7 @@ use Rattle.bits.proofs.AllBits.{allBits-head, allBits-tail}
 use Rattle.bits.proofs.Numbers.{numberOf-cons, numberOf-below}
 use Rattle.bits.proofs.Xor.{bitXor-bits}
 use Rattle.formats.specs.Polynomial.{sum}
-pub use Rattle.cyclic.proofs.Lists.{bits-sum as allBits-sum, length-sum}
+use Rattle.cyclic.proofs.Lists.{length-sum}
 
 -- the number of a sum is the XOR of the two numbers
 pub value-sum : (u v : List ℕ) → T (allBits u) → T (allBits v) → length u ≡ length v → numberOf (sum u v) ≡ bitXor (numberOf u) (numberOf v)

@@ -9,6 +9,8 @@ use Rattle.bits.specs.Bits.{allBits}
 use Rattle.bits.proofs.Tests.{holds}
 use Rattle.formats.specs.declared.format.Fit.the-variants.{As}
 use Rattle.formats.specs.Numbers.{long, short, fitOf}
+use Rattle.formats.proofs.Numbered.{outcome-numbered}
+use Rattle.encoder.specs.Encoding.{encodedValues}
 use Rattle.encoder.proofs.Steps.{length-refused, length-fits, bits-refused, room-refused, searched, block-size}
 use Rattle.encoder.proofs.encode.Statement.{statement}
 use Rattle.encoder.proofs.encode.Tie as tie
@@ -26,7 +28,8 @@ returns : tie.Need-returns
 returns c =
     let call = c .before .before in
     let a = call .before .before .before .args in
-    length-refused (a .block .now) (a .output .now) (sym (call .of-length .ensures) ∙ c .enum-told .given .1)
+    outcome-numbered encodedValues _ _ _
+    (length-refused (a .block .now) (a .output .now) (sym (call .of-length .ensures) ∙ c .enum-told .given .1))
 
 -- the length is that of the format
 fits : (c : tie.After-known-told) →
@@ -41,8 +44,9 @@ returns-2 c =
     let known = c .before .before in
     let a = known .before .before .before .before .before .before .args in
     let format = known .before .format .given .0 .0 in
-    length-fits format (a .block .now) (a .output .now) (fits known)
-    ∙ bits-refused format (a .block .now) (a .output .now) (sym (c .before .all-bits .ensures) ∙ not-true _ (c .if1 .taken))
+    outcome-numbered encodedValues _ _ _
+    (length-fits format (a .block .now) (a .output .now) (fits known)
+    ∙ bits-refused format (a .block .now) (a .output .now) (sym (c .before .all-bits .ensures) ∙ not-true _ (c .if1 .taken)))
 
 -- every byte is 0 or 1
 all : (c : tie.Else1) → allBits (c .before .before .before .before .before .before .before .before .args .block .now) ≡ true
@@ -57,8 +61,9 @@ returns-3 c =
     let known = bits .before .before in
     let a = known .before .before .before .before .before .before .args in
     let format = known .before .format .given .0 .0 in
-    length-fits format (a .block .now) (a .output .now) (fits known)
-    ∙ room-refused format (a .block .now) (a .output .now) (all bits) (omega arith)
+    outcome-numbered encodedValues _ _ _
+    (length-fits format (a .block .now) (a .output .now) (fits known)
+    ∙ room-refused format (a .block .now) (a .output .now) (all bits) (omega arith))
 
 write-first-requires : tie.Need-write-first-requires
 write-first-requires c κs =
@@ -79,9 +84,10 @@ returns-4 c =
     let known = bits .before .before in
     let a = known .before .before .before .before .before .before .args in
     let format = known .before .format .given .0 .0 in
-    length-fits format (a .block .now) (a .output .now) (fits known)
+    outcome-numbered encodedValues _ _ _
+    (length-fits format (a .block .now) (a .output .now) (fits known)
     ∙ searched format (a .block .now) (a .output .now) (all bits) (omega arith)
-    ∙ call .write-first .ensures
+    ∙ call .write-first .ensures)
 
 pub encode-spec : {M : Type 1} → statement M
 encode-spec =

@@ -20,7 +20,7 @@ returns : tie.Need-returns
 returns c =
     let made = c .before .before .before .before in
     let start = made .before .before .before .before in
-    cc (check-list (made .before .format-of .result) (start .args .bits .now) (start .pre .0) (made .check-bits .ensures .0))
+    cc (check-list (made .before .format-of .result) (start .args .bits .now) (made .check-bits .ensures .0))
 
 pub balise-layers-check-bits-spec : {M : Type 1} → statement M
 balise-layers-check-bits-spec =

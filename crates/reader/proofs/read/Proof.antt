@@ -7,6 +7,8 @@ use Rattle.bits.specs.Bits.{allBits}
 use Rattle.bits.proofs.Tests.{holds}
 use Rattle.formats.specs.declared.format.Fit.the-variants.{As}
 use Rattle.formats.specs.Numbers.{long, short, windowBits, fitOf}
+use Rattle.formats.proofs.Numbered.{outcome-numbered}
+use Rattle.reader.specs.Reads.{readValues}
 use Rattle.reader.proofs.Steps.{length-refused, length-fits, bits-refused, window-size}
 use Rattle.reader.proofs.read.Statement.{statement}
 use Rattle.reader.proofs.read.Tie as tie
@@ -30,7 +32,8 @@ returns : tie.Need-returns
 returns c =
     let fit = c .before .before in
     let a = fit .before .before .before .args in
-    length-refused (a .window .now) (a .output .now) (sym (fit .of-length .ensures) ∙ c .enum-told .given .1)
+    outcome-numbered readValues _ _ _
+    (length-refused (a .window .now) (a .output .now) (sym (fit .of-length .ensures) ∙ c .enum-told .given .1))
 
 -- the format that the length picks
 picked : (c : tie.After-known-told) →
@@ -47,8 +50,9 @@ returns-2 c =
     let told = call .before in
     let a = told .before .before .before .before .before .before .args in
     let format = told .before .format .given .0 .0 in
-    length-fits format (a .window .now) (a .output .now) (picked told)
-    ∙ bits-refused format (a .window .now) (a .output .now) (sym (call .all-bits .ensures) ∙ not-true _ (c .if1 .taken))
+    outcome-numbered readValues _ _ _
+    (length-fits format (a .window .now) (a .output .now) (picked told)
+    ∙ bits-refused format (a .window .now) (a .output .now) (sym (call .all-bits .ensures) ∙ not-true _ (c .if1 .taken)))
 
 read-bits-requires : tie.Need-read-bits-requires
 read-bits-requires c κs =
@@ -67,7 +71,8 @@ returns-3 c =
     let answer = c .before .before in
     let told = answer .before .before .before .before in
     let a = told .before .before .before .before .before .before .args in
-    length-fits (told .before .format .given .0 .0) (a .window .now) (a .output .now) (picked told) ∙ answer .read-bits .ensures
+    outcome-numbered readValues _ _ _
+    (length-fits (told .before .format .given .0 .0) (a .window .now) (a .output .now) (picked told) ∙ answer .read-bits .ensures)
 
 pub read-spec : {M : Type 1} → statement M
 read-spec =

@@ -14,7 +14,7 @@ use Rattle.formats.specs.Numbers.{numbersOf, fOf}
 use Rattle.cyclic.specs.Remainder.{remainder}
 use Rattle.cyclic.specs.Check.{turnOf, divisible}
 use Rattle.cyclic.proofs.Laws.{turnOf-at}
-use Rattle.cyclic.proofs.Machine.Divisors.{f-monic}
+use Rattle.cyclic.proofs.Formats.{factsOf}
 use Rattle.cyclic.proofs.Machine.Lists.{remainder-list}
 use Rattle.reader.specs.Reads.{seamAgrees}
 use Rattle.reader.proofs.Steps.{room-refused, seam-refused, divisible-refused, turn-refused, turn-found}
@@ -115,9 +115,10 @@ turn-is c =
     let a = start .args in
     let F = numbersOf (a .format) in
     let n = count .telegram-bits .result in
+    let m = factsOf (a .format) .f-degree in
     let v = take n (a .window .now) in
     ap (λ (i : ℕ). turnOf F (remainder (fOf F) (take i (a .window .now)))) (sym (count .telegram-bits .ensures))
-    ∙ ap (turnOf F) (sym (remainder-list (f-monic (a .format)) v (allBits-take n (a .window .now) (start .pre .0)) (rest .remainder-f .ensures .0)))
+    ∙ ap (turnOf F) (sym (remainder-list m v (allBits-take n (a .window .now) (start .pre .0)) (rest .remainder-f .ensures .0)))
     ∙ sym (c .turn .ensures)
 
 enum-known-t : tie.Need-enum-known-t

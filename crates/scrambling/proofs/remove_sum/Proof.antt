@@ -4,7 +4,7 @@ use mathlib.Core.List.{List}
 use Prim.Native.Nat.{ℕ, _+_, _-_, _/_, _%_}
 use native.Mathlib.Omega.{arith}
 use borrow.Author.Needs.{needs}
-use lib.ListN.{length, take, drop, length-take, length-drop}
+use lib.ListN.{length, take, drop, length-drop}
 use lib.Seq.{take-all}
 use Rattle.bits.proofs.AllBits.{allBits-drop}
 use Rattle.scrambling.specs.Sum.{firstBlock, withFirstBlock, sumOfBlocks, sumOfOthers, withoutSum}

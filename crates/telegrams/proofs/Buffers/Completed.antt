@@ -78,26 +78,25 @@ module _ (format : Format) (n : ℕ) (n-is : n ≡ numbersOf format .n) (t : Lis
     settled-front : take (n - 85) (back (n - 110) t left) ≡ take (n - 110) t ++ settings B esb
     settled-front = ap (take (n - 85)) settled ∙ take-at (take (n - 110) t ++ settings B esb) (drop (n - 85) t) (n - 85) settled-size
 
-    module _ (h : T (allBits (take (numbersOf format .n - 110) t))) where
-      pub bits-before : T (allBits (take (n - 85) (back (n - 110) t left)))
-      bits-before = rw settled-front (settled-bits h)
+    pub bits-before : T (allBits (take (numbersOf format .n - 110) t)) → T (allBits (take (n - 85) (back (n - 110) t left)))
+    bits-before h = rw settled-front (settled-bits h)
 
-      -- y is the number of the check bits, and last what the callee that writes them leaves
-      pub completed : (y : ℕ) (last : List ℕ) → y ≡ numberOf (checkBits (numbersOf format) (take (n - 85) (back (n - 110) t left)))
-          → last ≡ bitsOf 85 y ++ drop 85 (lent (n - 85) (back (n - 110) t left))
-          → back (n - 85) (back (n - 110) t left) last
-          ≡ (take (numbersOf format .n - 110) t ++ settings B esb)
-          ++ (checkBits (numbersOf format) (take (numbersOf format .n - 110) t ++ settings B esb) ++ drop (numbersOf format .n) t)
-      completed y last number checked =
-          let F = numbersOf format in
-          let d = take (n - 110) t ++ settings B esb in
-          let end : n - 85 + 85 ≡ n = omega (arith, sizesOf format .n-is) in
-          let check : bitsOf 85 y ≡ checkBits F d =
-          check-list format d (settled-bits h) (number ∙ ap (λ (l : List ℕ). numberOf (checkBits F l)) settled-front) in
-          front-more d (bitsOf 85 y) t (back (n - 110) t left) last (n - 85) 85 settled-size settled checked
-          ∙ append-assoc d (bitsOf 85 y) (drop (n - 85 + 85) t)
-          ∙ ap₂ (λ (c : List ℕ) (i : ℕ). d ++ (c ++ drop i t)) check end
-          ∙ ap (λ (m : ℕ). (take (m - 110) t ++ settings B esb) ++ (checkBits F (take (m - 110) t ++ settings B esb) ++ drop m t)) n-is
+    -- y is the number of the check bits, and last what the callee that writes them leaves
+    pub completed : (y : ℕ) (last : List ℕ) → y ≡ numberOf (checkBits (numbersOf format) (take (n - 85) (back (n - 110) t left)))
+        → last ≡ bitsOf 85 y ++ drop 85 (lent (n - 85) (back (n - 110) t left))
+        → back (n - 85) (back (n - 110) t left) last
+        ≡ (take (numbersOf format .n - 110) t ++ settings B esb)
+        ++ (checkBits (numbersOf format) (take (numbersOf format .n - 110) t ++ settings B esb) ++ drop (numbersOf format .n) t)
+    completed y last number checked =
+        let F = numbersOf format in
+        let d = take (n - 110) t ++ settings B esb in
+        let end : n - 85 + 85 ≡ n = omega (arith, sizesOf format .n-is) in
+        let check : bitsOf 85 y ≡ checkBits F d =
+        check-list format d (number ∙ ap (λ (l : List ℕ). numberOf (checkBits F l)) settled-front) in
+        front-more d (bitsOf 85 y) t (back (n - 110) t left) last (n - 85) 85 settled-size settled checked
+        ∙ append-assoc d (bitsOf 85 y) (drop (n - 85 + 85) t)
+        ∙ ap₂ (λ (c : List ℕ) (i : ℕ). d ++ (c ++ drop i t)) check end
+        ∙ ap (λ (m : ℕ). (take (m - 110) t ++ settings B esb) ++ (checkBits F (take (m - 110) t ++ settings B esb) ++ drop m t)) n-is
 
 -- ---- the telegram
 
@@ -124,6 +123,3 @@ module _ (F : Numbers) (A : Facts F) (S : Sizes F) (u : List ℕ) (B esb : ℕ) 
   pub telegram-data : take (F .n - 110) (telegramOf F u B esb ++ rest) ≡ shapedData F u B
   telegram-data =
       take-append-le (F .n - 110) (telegramOf F u B esb) rest (omega (arith, length-made F A S u B esb)) ∙ made-data F A S u B esb
-
-  pub telegram-rest : drop (F .n) (telegramOf F u B esb ++ rest) ≡ rest
-  telegram-rest = drop-at (telegramOf F u B esb) rest (F .n) (length-made F A S u B esb)

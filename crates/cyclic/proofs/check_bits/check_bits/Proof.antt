@@ -8,7 +8,8 @@ use Rattle.bits.specs.Bits.{numberOf}
 use Rattle.formats.specs.Numbers.{numbersOf}
 use Rattle.formats.specs.Polynomial.{sum}
 use Rattle.cyclic.specs.Check.{checkBits, gPadded}
-use Rattle.cyclic.proofs.Machine.Divisors.{fg-monic, empty-start}
+use Rattle.cyclic.proofs.Formats.{factsOf}
+use Rattle.cyclic.proofs.Machine.Divisors.{empty-start}
 use Rattle.cyclic.proofs.check_bits.check_bits.Statement.{statement}
 use Rattle.cyclic.proofs.check_bits.check_bits.Tie as tie
 
@@ -22,7 +23,7 @@ returns : tie.Need-returns
 unfolding checkBits
 returns c =
     let a = c .before .before .before .args in
-    let start = empty-start (fg-monic (a .format)) (c .before .zero .ensures) (a .bits .now ++ replicate 85 0) in
+    let start = empty-start (factsOf (a .format) .fg-degree) (c .before .zero .ensures) (a .bits .now ++ replicate 85 0) in
     (c .check-bits-from .ensures .0 ∙ ap (λ (r : List ℕ). numberOf (sum r (gPadded (numbersOf (a .format))))) start, c .check-bits-from .ensures .1)
 
 pub check-bits-spec : {M : Type 1} → statement M

@@ -11,10 +11,11 @@ use Rattle.bits.proofs.Numbers.{length-bitsOf}
 use Rattle.formats.specs.Numbers.{numbersOf, fgOf}
 use Rattle.formats.specs.Value.{valueOf}
 use Rattle.cyclic.specs.Remainder.{remainderFrom}
+use Rattle.cyclic.proofs.Lists.{bits-zeros}
 use Rattle.cyclic.proofs.Quotients.{from-append}
 use Rattle.cyclic.proofs.Remainders.{bits-from}
-use Rattle.cyclic.proofs.Machine.Divisors.{fg-monic}
-use Rattle.cyclic.proofs.Machine.Lists.{allBits-zeros, length-register, register-list, checked-number, checked-fits}
+use Rattle.cyclic.proofs.Formats.{factsOf}
+use Rattle.cyclic.proofs.Machine.Lists.{length-register, register-list, checked-number, checked-fits}
 use Rattle.cyclic.proofs.check_bits.check_bits_from.Statement.{statement}
 use Rattle.cyclic.proofs.check_bits.check_bits_from.Tie as tie
 
@@ -38,21 +39,22 @@ returns : tie.Need-returns
 returns c =
     let s = c .before .before .before .before .before .before in
     let x = s .args .format in
+    let m = factsOf x .fg-degree in
     let t = drop 1 (fgOf (numbersOf x)) in
     let start = bitsOf 85 (valueOf (s .args .start)) in
     let above = s .args .bits .now in
     let hs = allBits-bitsOf 85 (valueOf (s .args .start)) in
     let size = length-bitsOf 85 (valueOf (s .args .start)) in
     let after = above ++ replicate 85 0 in
-    let bits : T (allBits after) = allBits-append above (replicate 85 0) (s .pre .1) (allBits-zeros 85) in
-    let middle = register-list (fg-monic x) start above hs size (s .pre .1) (c .before .before .before .before .remainder-from-fg .ensures .0) in
+    let bits : T (allBits after) = allBits-append above (replicate 85 0) (s .pre .1) (bits-zeros 85) in
+    let middle = register-list m start above hs size (s .pre .1) (c .before .before .before .before .remainder-from-fg .ensures .0) in
     let rest =
     c .before .before .remainder-from-fg2 .ensures .0
     ∙ ap (λ (r : List ℕ). numberOf (remainderFrom t r (replicate 85 0))) middle
     ∙ ap numberOf (sym (from-append t start above (replicate 85 0)))
     in
     let hr = bits-from t start after hs bits in
-    let long = length-register (fg-monic x) start after hs size bits in
+    let long = length-register m start after hs size bits in
     let e = c .plus .ensures ∙ checked-number x (remainderFrom t start after) hr long rest (c .before .g .ensures) in
     (e, checked-fits x (remainderFrom t start after) hr long e)
 

@@ -1,6 +1,6 @@
 -- `cyclic::divisors::unturned` meets its contract. Assumes nothing.
 use borrow.Author.Needs.{needs}
-use mathlib.Core.Path.{_≡_, sym}
+use mathlib.Core.Path.{sym}
 use Rattle.cyclic.proofs.Machine.Tests.{unturned-number}
 use Rattle.cyclic.proofs.divisors.unturned.Statement.{statement}
 use Rattle.cyclic.proofs.divisors.unturned.Tie as tie

@@ -2,7 +2,8 @@
 use borrow.Author.Needs.{needs}
 use mathlib.Core.Path.{ap, _∙_}
 use Rattle.bits.specs.Bits.{numberOf}
-use Rattle.cyclic.proofs.Machine.Divisors.{fg-monic, empty-start}
+use Rattle.cyclic.proofs.Formats.{factsOf}
+use Rattle.cyclic.proofs.Machine.Divisors.{empty-start}
 use Rattle.cyclic.proofs.remainder.remainder_fg.Statement.{statement}
 use Rattle.cyclic.proofs.remainder.remainder_fg.Tie as tie
 
@@ -15,7 +16,7 @@ remainder-from-fg-requires c κs = search needs
 returns : tie.Need-returns
 returns c =
     let a = c .before .before .before .args in
-    let start = empty-start (fg-monic (a .format)) (c .before .zero .ensures) (a .bits .now) in
+    let start = empty-start (factsOf (a .format) .fg-degree) (c .before .zero .ensures) (a .bits .now) in
     (c .remainder-from-fg .ensures .0 ∙ ap numberOf start, c .remainder-from-fg .ensures .1)
 
 pub remainder-fg-spec : {M : Type 1} → statement M

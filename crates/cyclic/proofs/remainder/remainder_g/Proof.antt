@@ -4,7 +4,8 @@ use mathlib.Core.Path.{_∙_, subst⁻¹}
 use Prim.Native.Nat.{ℕ, _<_, _^_}
 use lib.Dec.{lit<}
 use Rattle.formats.specs.Value.{valueOf}
-use Rattle.cyclic.proofs.Machine.Divisors.{g-monic, divisor-degree, divided}
+use Rattle.cyclic.proofs.Formats.{factsOf}
+use Rattle.cyclic.proofs.Machine.Divisors.{divisor-degree, divided}
 use Rattle.cyclic.proofs.remainder.remainder_g.Statement.{statement}
 use Rattle.cyclic.proofs.remainder.remainder_g.Tie as tie
 
@@ -18,13 +19,14 @@ run-requires : tie.Need-run-requires
 run-requires c κs =
     let s = c .before .before .before in
     let start : valueOf (c .zero .result) < 2 ^ 75 = subst⁻¹ (λ (x : ℕ). x < 2 ^ 75) (c .zero .ensures) (lit< tt) in
-    let degree = divisor-degree (g-monic (s .args .format)) (c .before .g .ensures) in
+    let degree = divisor-degree (factsOf (s .args .format) .g-degree) (c .before .g .ensures) in
     ((lit< tt, lit< tt), record { degree = degree; fits = start; bits = s .pre })
 
 returns : tie.Need-returns
 returns c =
     let a = c .before .before .before .before .args in
-    (c .run .ensures .0 ∙ divided (g-monic (a .format)) (c .before .before .g .ensures) (c .before .zero .ensures) (a .bits .now), c .run .ensures .1)
+    let from = divided (factsOf (a .format) .g-degree) (c .before .before .g .ensures) (c .before .zero .ensures) (a .bits .now) in
+    (c .run .ensures .0 ∙ from, c .run .ensures .1)
 
 pub remainder-g-spec : {M : Type 1} → statement M
 remainder-g-spec = tie.close (tie.spec g-requires zero-requires run-requires returns)

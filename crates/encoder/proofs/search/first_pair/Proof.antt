@@ -13,7 +13,7 @@ use Rattle.telegrams.specs.Telegram.{telegramOf}
 use Rattle.telegrams.proofs.Made.{bits-made, length-made}
 use Rattle.conditions.proofs.Sizes.{sizes}
 use Rattle.encoder.specs.Encoding.{pairCount, passes, firstPair}
-use Rattle.encoder.specs.Searched.{madeProper, searchOf}
+use Rattle.encoder.specs.Searched.{madeProper, pairOf}
 use Rattle.encoder.proofs.Pairs.{Left, left-all, left-fewer, left-found, left-none, pair-searched, pair-passes}
 use Rattle.encoder.proofs.Tried.{block-ten, block-within, summed-bits, summed-size, shaped-front, Trying, trying-fits, trying-bits, tried-telegram, tried-next}
 use Rattle.encoder.proofs.search.first_pair.Statement.{statement}
@@ -220,11 +220,11 @@ returns c =
     let call = c .before .before .before .before in
     let b = outer (inner call) .loop .b in
     let esb = inner call .loop2 .esb in
-    sym (ap searchOf (left-found (inner call .loop2 .inv .2) (omega arith) (tested (c .before) ∙ c .if1 .taken))
+    sym (ap pairOf (left-found (inner call .loop2 .inv .2) (omega arith) (tested (c .before) ∙ c .if1 .taken))
     ∙ pair-searched b esb (omega arith))
 
 returns-2 : tie.Need-returns-2 Inv-loop2 μ-loop2 Inv-loop μ-loop Inv-search μ-search
-returns-2 c = sym (ap searchOf (left-none (c .before .loop .inv .1) (omega arith)))
+returns-2 c = sym (ap pairOf (left-none (c .before .loop .inv .1) (omega arith)))
 
 pub first-pair-spec : {M : Type 1} → statement M
 first-pair-spec =

@@ -1,4 +1,5 @@
 -- `scrambling::Scrambler::fed` meets its contract: the feedback under the mask is 0, or all of it. Assumes nothing.
+use mathlib.Core.Bool.{cond}
 use mathlib.Core.Path.{_≡_, refl, ap, _∙_}
 use Prim.Native.Nat.{ℕ, zero, suc, _*_, _<_}
 use native.Mathlib.Omega.{arith}
@@ -6,12 +7,12 @@ use borrow.Author.Needs.{needs}
 use lib.Bits.{bitXor, xor-zero-r}
 use lib.Dec.{eqb, lit<}
 use Rattle.bits.proofs.Mask.{masked}
-use Rattle.scrambling.specs.Scrambling.{feedback, pickState, shifted, nextState}
+use Rattle.scrambling.specs.Scrambling.{feedback, shifted, nextState}
 use Rattle.scrambling.proofs.Scrambler.fed.Statement.{statement}
 use Rattle.scrambling.proofs.Scrambler.fed.Tie as tie
 
 -- the bit times the feedback is XORed
-xor-times : (x bit : ℕ) → bit < 2 → bitXor x (bit * feedback) ≡ pickState (eqb bit 1) (bitXor x feedback) x
+xor-times : (x bit : ℕ) → bit < 2 → bitXor x (bit * feedback) ≡ cond (eqb bit 1) (bitXor x feedback) x
 xor-times x zero h = xor-zero-r x
 xor-times x (suc zero) h = refl
 xor-times x (suc (suc bit)) h = absurd (omega arith)

@@ -6,7 +6,7 @@ use native.Mathlib.Nat.{zero-add}
 use native.Mathlib.Omega.{arith}
 use lib.ListN.{length, drop}
 use Rattle.bits.proofs.AllBits.{allBits-drop}
-use Rattle.scrambling.specs.Sum.{firstBlock, sumOfBlocks}
+use Rattle.scrambling.specs.Sum.{sumOfBlocks}
 use Rattle.scrambling.proofs.BlockSum.{firstBlock-below, sum-more, sum-done}
 use Rattle.scrambling.proofs.blocks.sum_of_blocks.Statement.{statement}
 use Rattle.scrambling.proofs.blocks.sum_of_blocks.Tie as tie

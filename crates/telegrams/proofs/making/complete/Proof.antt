@@ -77,7 +77,7 @@ returns c =
     let start = bits .before .before in
     let a = start .args in
     completed (a .format) (bits .telegram-bits .result) (bits .telegram-bits .ensures) (a .telegram .now) (a .b) (a .esb) (start .pre .0)
-    (call .write-settings .last .1 .1 .0) (call .write-settings .ensures) (start .pre .1) (valueOf (register .check-bits .result))
+    (call .write-settings .last .1 .1 .0) (call .write-settings .ensures) (valueOf (register .check-bits .result))
     (check .write-check-bits .last .1 .0) (register .check-bits .ensures .0) (check .write-check-bits .ensures)
 
 pub complete-spec : {M : Type 1} → statement M

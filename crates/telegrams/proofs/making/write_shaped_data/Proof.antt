@@ -10,7 +10,7 @@ use Rattle.bits.proofs.AllBits.{allBits-append, allBits-drop}
 use Rattle.formats.proofs.Sizes.{sizesOf}
 use Rattle.scrambling.specs.Scrambling.{scrambled}
 use Rattle.scrambling.proofs.Scrambled.{scrambled-length, scrambled-bits}
-use Rattle.cyclic.proofs.Machine.Lists.{allBits-zeros}
+use Rattle.cyclic.proofs.Lists.{bits-zeros}
 use Rattle.telegrams.specs.Telegram.{shaped}
 use Rattle.telegrams.proofs.Buffers.Blocks.{shaped-front}
 use Rattle.telegrams.proofs.Buffers.Completed.{block-fits}
@@ -38,7 +38,7 @@ shape-requires c κs =
     let start = call .before .before .before .before in
     let a = start .args in
     let v = a .summed .now in
-    let rest = allBits-drop (length v) zeros (allBits-zeros 830) in (
+    let rest = allBits-drop (length v) zeros (bits-zeros 830) in (
       rw (call .scramble .ensures) (allBits-append (scrambled (a .b) v) (drop (length v) zeros) (scrambled-bits (a .b) v) rest),
       (omega (arith, block-fits (a .format)), omega (arith, sizesOf (a .format) .n-is)),
     )

@@ -1,5 +1,5 @@
 -- `texts::input::read_text` meets its contract. The loop's invariant: the buffer holds the bits of some text, what was read so far. The
--- measure is the number of turns that are left. Assumes nothing.
+-- measure is the number of reads that are left. Assumes nothing.
 use mathlib.Core.Path.{_≡_, refl, subst, _∙_}
 use mathlib.Core.List.{List}
 use Prim.Native.Nat.{ℕ}
@@ -7,25 +7,25 @@ use native.Mathlib.Omega.{arith}
 use borrow.Author.Needs.{needs}
 use lib.ListN.{length}
 use Rattle.formats.specs.Outcome.{outcome}
-use Rattle.texts.specs.declared.input.Turn.{Turn}
-use Rattle.texts.specs.declared.input.Turn.the-variants.{More, End}
-use Rattle.texts.specs.declared.input.Turn.the-variants.{Bad as Bad-turn}
+use Rattle.texts.specs.declared.input.OneRead.{OneRead}
+use Rattle.texts.specs.declared.input.OneRead.the-variants.{More, End}
+use Rattle.texts.specs.declared.input.OneRead.the-variants.{Bad as Bad-read}
 use Rattle.texts.specs.declared.reading.Progress.the-variants.{Count}
-use Rattle.texts.specs.Input.{turned, OfSomeText}
+use Rattle.texts.specs.Input.{progressAfter, OfSomeText}
 use Rattle.texts.proofs.SomeText.{some-none, some-more, some-failed, some-within}
 use Rattle.texts.proofs.input.read_text.Statement.{statement}
 use Rattle.texts.proofs.input.read_text.Tie as tie
 
 abbrev Inv-loop : tie.InvT-loop
-Inv-loop bits₀ count₀ turns₀ bits count turns = (length bits ≡ length bits₀) × OfSomeText (outcome (Count count) bits) 0 bits₀
+Inv-loop bits₀ count₀ reads₀ bits count reads = (length bits ≡ length bits₀) × OfSomeText (outcome (Count count) bits) 0 bits₀
 
 abbrev μ-loop : tie.MeasureT-loop
-μ-loop bits₀ count₀ turns₀ bits count turns = turns
+μ-loop bits₀ count₀ reads₀ bits count reads = reads
 
--- one turn more
+-- one read more
 module _ (old buffer new : List ℕ) (n : ℕ) (same : length buffer ≡ length old) (w : OfSomeText (outcome (Count n) buffer) 0 old) where
-  turn : (r q : Turn) → OfSomeText (outcome (turned n r) new) n buffer → r ≡ q → OfSomeText (outcome (turned n q) new) 0 old
-  turn r q v e = subst (λ (x : Turn). OfSomeText (outcome (turned n x) new) 0 old) e (some-more 0 n buffer old w same v)
+  one-read : (r q : OneRead) → OfSomeText (outcome (progressAfter n r) new) n buffer → r ≡ q → OfSomeText (outcome (progressAfter n q) new) 0 old
+  one-read r q v e = subst (λ (x : OneRead). OfSomeText (outcome (progressAfter n x) new) 0 old) e (some-more 0 n buffer old w same v)
 
 loop-holds : tie.Need-loop-holds Inv-loop μ-loop
 loop-holds c = (refl, some-none 0 (c .before .args .bits .now) (omega arith))
@@ -35,8 +35,8 @@ read-some-requires c κs =
     let l = c .before .before in
     some-within 0 (l .loop .count) (l .loop .bits) (l .before .before .args .bits .now) (l .loop .inv .1)
 
-enum-known-turn : tie.Need-enum-known-turn Inv-loop μ-loop
-enum-known-turn c = search needs
+enum-known-got : tie.Need-enum-known-got Inv-loop μ-loop
+enum-known-got c = search needs
 
 enum-told : tie.Need-enum-told Inv-loop μ-loop
 enum-told c = search needs
@@ -50,7 +50,7 @@ returns : tie.Need-returns Inv-loop μ-loop
 returns c =
     let t = c .before .before .before .before in
     let l = t .before .before .before in
-    turn (l .before .before .args .bits .now) (l .loop .bits) (t .read-some .last .0) (l .loop .count) (l .loop .inv .0) (l .loop .inv .1) (t .read-some .result)
+    one-read (l .before .before .args .bits .now) (l .loop .bits) (t .read-some .last .0) (l .loop .count) (l .loop .inv .0) (l .loop .inv .1) (t .read-some .result)
     End (t .read-some .ensures) (c .enum-told .given .1)
 
 enum-told-2 : tie.Need-enum-told-2 Inv-loop μ-loop
@@ -65,11 +65,11 @@ returns-2 : tie.Need-returns-2 Inv-loop μ-loop
 returns-2 c =
     let t = c .before .before .before .before in
     let l = t .before .before .before in
-    turn (l .before .before .args .bits .now) (l .loop .bits) (t .read-some .last .0) (l .loop .count) (l .loop .inv .0) (l .loop .inv .1) (t .read-some .result)
-    Bad-turn (t .read-some .ensures) (c .enum-told2 .given .1)
+    one-read (l .before .before .args .bits .now) (l .loop .bits) (t .read-some .last .0) (l .loop .count) (l .loop .inv .0) (l .loop .inv .1) (t .read-some .result)
+    Bad-read (t .read-some .ensures) (c .enum-told2 .given .1)
 
-sub-turns : tie.Need-sub-turns Inv-loop μ-loop
-sub-turns c = omega arith
+sub-reads : tie.Need-sub-reads Inv-loop μ-loop
+sub-reads c = omega arith
 
 loop-less : tie.Need-loop-less Inv-loop μ-loop
 loop-less c = omega arith
@@ -79,8 +79,8 @@ loop-again c =
     let t = c .before .before .before .before .before in
     let l = t .before .before .before in (
       t .read-some .kept .0 ∙ l .loop .inv .0,
-      turn (l .before .before .args .bits .now) (l .loop .bits) (t .read-some .last .0) (l .loop .count) (l .loop .inv .0) (l .loop .inv .1) (t .read-some .result)
-          (More (c .before .turn .given .0 .0)) (t .read-some .ensures) (c .before .turn .given .1),
+      one-read (l .before .before .args .bits .now) (l .loop .bits) (t .read-some .last .0) (l .loop .count) (l .loop .inv .0) (l .loop .inv .1) (t .read-some .result)
+          (More (c .before .got .given .0 .0)) (t .read-some .ensures) (c .before .got .given .1),
     )
 
 same-length-3 : tie.Need-same-length-3 Inv-loop μ-loop
@@ -99,14 +99,14 @@ read-text-spec =
     μ-loop
     loop-holds
     read-some-requires
-    enum-known-turn
+    enum-known-got
     enum-told
     same-length
     returns
     enum-told-2
     same-length-2
     returns-2
-    sub-turns
+    sub-reads
     loop-less
     loop-again
     same-length-3

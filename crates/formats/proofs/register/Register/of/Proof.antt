@@ -1,6 +1,6 @@
 -- `formats::register::Register::of` meets its contract. The loop's invariant: the powers of the whole slice are those of the rest added to the sum so far. Assumes nothing.
-use mathlib.Core.Path.{_≡_, refl, sym, ap, _∙_}
-use mathlib.Core.List.{List, [], _∷_}
+use mathlib.Core.Path.{_≡_, sym, ap, _∙_}
+use mathlib.Core.List.{List, _∷_}
 use Prim.Native.Nat.{ℕ, _+_, _≤_, _<_, _-_, _^_}
 use native.Mathlib.Omega.{arith}
 use lib.Bits.{bitXor}

@@ -1,7 +1,9 @@
 // The answers of the public calls as numbers.
 ghost use mathlib.Core.Path.{_≡_};
 ghost use Prim.Native.Nat.{_≤_, _<_};
-ghost use Rattle.balise.specs.Packed.{formatBit, flippedBit, encodedFields, readFields, searchFields, packedEncoded, packedChecked, packedRead, packedSearch, turnIn, turnFound, placeFound};
+ghost use Rattle.formats.specs.AnswerValues.{formatNumber, flippedNumber};
+ghost use Rattle.captures.specs.Captures.{captureLimit};
+ghost use Rattle.balise.specs.AsNumber.{encodedFields, readFields, searchFields, encodedAsNumber, checkedAsNumber, readAsNumber, captureAsNumber, turnIn, turnFound, placeFound};
 use captures::Capture;
 use checker::Checked;
 use encoder::Encoded;
@@ -10,8 +12,8 @@ use formats::refusal;
 use reader::ReadAnswer;
 
 // The format: 0 long, 1 short.
-fn format_bit(format: Format) -> u8
-    ensures { λ r. ⌜ r ≡ formatBit format ⌝ }
+fn format_number(format: Format) -> u8
+    ensures { λ r. ⌜ r ≡ formatNumber format ⌝ }
 {
     match format {
         Format::Long => 0,
@@ -20,8 +22,8 @@ fn format_bit(format: Format) -> u8
 }
 
 // 0 upright, 1 flipped.
-fn flipped_bit(flipped: bool) -> u8
-    ensures { λ r. ⌜ r ≡ flippedBit flipped ⌝ }
+fn flipped_number(flipped: bool) -> u8
+    ensures { λ r. ⌜ r ≡ flippedNumber flipped ⌝ }
 {
     if flipped { 1 } else { 0 }
 }
@@ -47,7 +49,7 @@ fn read_fields(number: u8, format: u8, flipped: u8, b: u16, turn: usize) -> u64
 // The fields of the search's answer.
 fn search_fields(format: u8, flipped: u8, b: u16, turn: usize, place: usize) -> u64
     requires { ⌜ turn < 1024 ⌝ }
-    requires { ⌜ place ≤ 7500 ⌝ }
+    requires { ⌜ place ≤ captureLimit ⌝ }
     ensures { λ r. ⌜ r ≡ searchFields 0 format flipped b turn place ⌝ }
 {
     let above = turn as u64 + 1024 * (place as u64);
@@ -56,7 +58,7 @@ fn search_fields(format: u8, flipped: u8, b: u16, turn: usize, place: usize) -> 
 }
 
 pub fn encoded(answer: Encoded) -> u64
-    ensures { λ r. ⌜ r ≡ packedEncoded answer ⌝ }
+    ensures { λ r. ⌜ r ≡ encodedAsNumber answer ⌝ }
 {
     match answer {
         Encoded::Pair {
@@ -64,7 +66,7 @@ pub fn encoded(answer: Encoded) -> u64
             scrambling,
             shaping,
             tried,
-        } => encoded_fields(0, format_bit(format), scrambling, shaping, tried),
+        } => encoded_fields(0, format_number(format), scrambling, shaping, tried),
         Encoded::Refused(refusal) => {
             encoded_fields(refusal::number(refusal), 0, 0, 0, refusal::tried(refusal))
         }
@@ -72,17 +74,17 @@ pub fn encoded(answer: Encoded) -> u64
 }
 
 pub fn checked(answer: Checked) -> u64
-    ensures { λ r. ⌜ r ≡ packedChecked answer ⌝ }
+    ensures { λ r. ⌜ r ≡ checkedAsNumber answer ⌝ }
 {
     match answer {
-        Checked::Proper(format) => 256 * (format_bit(format) as u64),
+        Checked::Proper(format) => 256 * (format_number(format) as u64),
         Checked::Refused(refusal) => refusal::number(refusal) as u64,
     }
 }
 
 pub fn read(answer: ReadAnswer) -> u64
     requires { ⌜ turnIn answer < 1024 ⌝ }
-    ensures { λ r. ⌜ r ≡ packedRead answer ⌝ }
+    ensures { λ r. ⌜ r ≡ readAsNumber answer ⌝ }
 {
     match answer {
         ReadAnswer::Read(reading) => {
@@ -90,7 +92,13 @@ pub fn read(answer: ReadAnswer) -> u64
             let flipped = reading.flipped;
             let bits = reading.scrambling;
             let turn = reading.turn;
-            read_fields(0, format_bit(format), flipped_bit(flipped), bits, turn)
+            read_fields(
+                0,
+                format_number(format),
+                flipped_number(flipped),
+                bits,
+                turn,
+            )
         }
         ReadAnswer::Refused(refusal) => refusal::number(refusal) as u64,
     }
@@ -98,8 +106,8 @@ pub fn read(answer: ReadAnswer) -> u64
 
 pub fn searched(answer: Capture) -> u64
     requires { ⌜ turnFound answer < 1024 ⌝ }
-    requires { ⌜ placeFound answer ≤ 7500 ⌝ }
-    ensures { λ r. ⌜ r ≡ packedSearch answer ⌝ }
+    requires { ⌜ placeFound answer ≤ captureLimit ⌝ }
+    ensures { λ r. ⌜ r ≡ captureAsNumber answer ⌝ }
 {
     match answer {
         Capture::Found { place, reading } => {
@@ -107,7 +115,13 @@ pub fn searched(answer: Capture) -> u64
             let flipped = reading.flipped;
             let bits = reading.scrambling;
             let turn = reading.turn;
-            search_fields(format_bit(format), flipped_bit(flipped), bits, turn, place)
+            search_fields(
+                format_number(format),
+                flipped_number(flipped),
+                bits,
+                turn,
+                place,
+            )
         }
         Capture::Refused(refusal) => refusal::number(refusal) as u64,
     }

@@ -2,10 +2,8 @@
 -- each in a field of its own from the lowest binary digit up.
 -- Assumes nothing.
 use Prim.Native.Nat.{ℕ, _+_, _*_}
-use mathlib.Core.Bool.{Bool, true, false}
-use Rattle.formats.specs.declared.format.Format.{Format}
-use Rattle.formats.specs.declared.format.Format.the-variants.{Long, Short}
 use Rattle.formats.specs.Refused.{refusalNumber, triedCount}
+use Rattle.formats.specs.AnswerValues.{formatNumber, flippedNumber}
 use Rattle.encoder.specs.declared.Encoded.{Encoded}
 use Rattle.encoder.specs.declared.Encoded.the-variants.{Pair, Refused as NotEncoded}
 use Rattle.checker.specs.declared.Checked.{Checked}
@@ -19,37 +17,27 @@ use Rattle.captures.specs.declared.Capture.the-variants.{Found, Refused as NotF
 abbrev pub field : ℕ → ℕ → ℕ → ℕ
 field size value above = value + size * above
 
--- the format: 0 long, 1 short
-abbrev pub formatBit : Format → ℕ
-formatBit Long = 0
-formatBit Short = 1
-
--- 0 upright, 1 flipped
-abbrev pub flippedBit : Bool → ℕ
-flippedBit false = 0
-flippedBit true = 1
-
 -- bits 0 to 7 the number, 8 the format, 9 to 20 B, 21 to 30 esb, 31 to 53 the count of pairs tried
 abbrev pub encodedFields : ℕ → ℕ → ℕ → ℕ → ℕ → ℕ
 encodedFields number format B esb tried = field 256 number (field 2 format (field 4096 B (field 1024 esb tried)))
 
-abbrev pub packedEncoded : Encoded → ℕ
-packedEncoded (Pair format B esb tried) = encodedFields 0 (formatBit format) B esb tried
-packedEncoded (NotEncoded refusal) = encodedFields (refusalNumber refusal) 0 0 0 (triedCount refusal)
+abbrev pub encodedAsNumber : Encoded → ℕ
+encodedAsNumber (Pair format B esb tried) = encodedFields 0 (formatNumber format) B esb tried
+encodedAsNumber (NotEncoded refusal) = encodedFields (refusalNumber refusal) 0 0 0 (triedCount refusal)
 
 -- bits 0 to 7 the number, 8 the format
-abbrev pub packedChecked : Checked → ℕ
-packedChecked (Proper format) = field 256 0 (formatBit format)
-packedChecked (NotProper refusal) = field 256 (refusalNumber refusal) 0
+abbrev pub checkedAsNumber : Checked → ℕ
+checkedAsNumber (Proper format) = field 256 0 (formatNumber format)
+checkedAsNumber (NotProper refusal) = field 256 (refusalNumber refusal) 0
 
 -- bits 0 to 7 the number, 8 the format, 9 whether it was flipped, 10 to 21 B, 22 to 31 the turn
 abbrev pub readFields : ℕ → ℕ → ℕ → ℕ → ℕ → ℕ
 readFields number format flipped B turn = field 256 number (field 2 format (field 2 flipped (field 4096 B turn)))
 
-abbrev pub packedRead : ReadAnswer → ℕ
-packedRead (Read reading) =
-    readFields 0 (formatBit (reading .format)) (flippedBit (reading .flipped)) (reading .scrambling) (reading .turn)
-packedRead (NotRead refusal) = readFields (refusalNumber refusal) 0 0 0 0
+abbrev pub readAsNumber : ReadAnswer → ℕ
+readAsNumber (Read reading) =
+    readFields 0 (formatNumber (reading .format)) (flippedNumber (reading .flipped)) (reading .scrambling) (reading .turn)
+readAsNumber (NotRead refusal) = readFields (refusalNumber refusal) 0 0 0 0
 
 -- the turn that an answer has; 0 where it has none
 abbrev pub turnIn : ReadAnswer → ℕ
@@ -60,10 +48,10 @@ turnIn (NotRead refusal) = 0
 abbrev pub searchFields : ℕ → ℕ → ℕ → ℕ → ℕ → ℕ → ℕ
 searchFields number format flipped B turn place = readFields number format flipped B (field 1024 turn place)
 
-abbrev pub packedSearch : Capture → ℕ
-packedSearch (Found place reading) =
-    searchFields 0 (formatBit (reading .format)) (flippedBit (reading .flipped)) (reading .scrambling) (reading .turn) place
-packedSearch (NotFound refusal) = searchFields (refusalNumber refusal) 0 0 0 0 0
+abbrev pub captureAsNumber : Capture → ℕ
+captureAsNumber (Found place reading) =
+    searchFields 0 (formatNumber (reading .format)) (flippedNumber (reading .flipped)) (reading .scrambling) (reading .turn) place
+captureAsNumber (NotFound refusal) = searchFields (refusalNumber refusal) 0 0 0 0 0
 
 -- the turn and the place that an answer has; 0 where it has none
 abbrev pub turnFound : Capture → ℕ

@@ -1,8 +1,8 @@
--- `balise::packed::search_fields` meets its contract: the sum is that of the fields, and it fits. Assumes nothing.
+-- `balise::as_number::search_fields` meets its contract: the sum is that of the fields, and it fits. Assumes nothing.
 use native.Mathlib.Omega.{arith}
 use borrow.Author.Needs.{needs}
-use Rattle.balise.proofs.packed.search_fields.Statement.{statement}
-use Rattle.balise.proofs.packed.search_fields.Tie as tie
+use Rattle.balise.proofs.as_number.search_fields.Statement.{statement}
+use Rattle.balise.proofs.as_number.search_fields.Tie as tie
 
 returns : tie.Need-returns
 returns c = omega arith

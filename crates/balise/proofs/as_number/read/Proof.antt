@@ -1,19 +1,19 @@
--- `balise::packed::read` meets its contract, case by case. Assumes nothing.
+-- `balise::as_number::read` meets its contract, case by case. Assumes nothing.
 use mathlib.Core.Path.{ap}
 use native.Mathlib.Omega.{arith}
 use borrow.Author.Needs.{needs}
-use Rattle.balise.specs.Packed.{packedRead, turnIn}
-use Rattle.balise.proofs.packed.read.Statement.{statement}
-use Rattle.balise.proofs.packed.read.Tie as tie
+use Rattle.balise.specs.AsNumber.{readAsNumber, turnIn}
+use Rattle.balise.proofs.as_number.read.Statement.{statement}
+use Rattle.balise.proofs.as_number.read.Tie as tie
 
 enum-known-answer : tie.Need-enum-known-answer
 enum-known-answer c = search needs
 
-format-bit-requires : tie.Need-format-bit-requires
-format-bit-requires c κs = search needs
+format-number-requires : tie.Need-format-number-requires
+format-number-requires c κs = search needs
 
-flipped-bit-requires : tie.Need-flipped-bit-requires
-flipped-bit-requires c κs = search needs
+flipped-number-requires : tie.Need-flipped-number-requires
+flipped-number-requires c κs = search needs
 
 read-fields-requires : tie.Need-read-fields-requires
 read-fields-requires c κs = omega (arith, ap turnIn (c .before .before .before .answer .given .1))
@@ -28,18 +28,18 @@ cast-result : tie.Need-cast-result
 cast-result c = search needs
 
 returns : tie.Need-returns
-returns c = omega (arith, ap packedRead (c .before .before .before .before .answer .given .1))
+returns c = omega (arith, ap readAsNumber (c .before .before .before .before .answer .given .1))
 
 returns-2 : tie.Need-returns-2
-returns-2 c = omega (arith, ap packedRead (c .before .before .answer2 .given .1))
+returns-2 c = omega (arith, ap readAsNumber (c .before .before .answer2 .given .1))
 
 pub read-spec : {M : Type 1} → statement M
 read-spec =
     tie.close
     (tie.spec
     enum-known-answer
-    format-bit-requires
-    flipped-bit-requires
+    format-number-requires
+    flipped-number-requires
     read-fields-requires
     enum-known-answer-2
     number-requires

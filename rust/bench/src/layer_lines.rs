@@ -1,0 +1,95 @@
+//! The layers against plain Rust.
+
+use crate::plain::{self, FG, G};
+use crate::{heading, inputs, line, set, INPUTS, REPETITIONS};
+use second::cyclic;
+use second::format::Format;
+use second::random::Random;
+use second::words;
+use std::hint::black_box;
+
+/// A division of the layers, and one of plain Rust.
+type Ours = fn(bool, &[u8], &mut [u64]);
+type Plain = fn(&[u8]) -> u128;
+
+/// Prints the lines of a division: the second program's has a variable divisor.
+fn division_lines(name: &str, telegrams: &[Vec<u8>], ours: Ours, divisor: u128, plain: Plain) {
+    let mut two_words = [0; 2];
+    let mut ours = |i| {
+        for bits in set(telegrams, i) {
+            ours(true, black_box(bits), &mut two_words);
+            black_box(&two_words);
+        }
+    };
+    let variable = |i| {
+        for bits in set(telegrams, i) {
+            black_box(cyclic::remainder(black_box(bits), black_box(divisor)));
+        }
+    };
+    let constant = |i| {
+        for bits in set(telegrams, i) {
+            black_box(plain(black_box(bits)));
+        }
+    };
+    let name = format!("remainder of 1,023 bits by {name}");
+    line(&name, INPUTS, "at most 1.5", &mut ours, variable);
+    let name = "  divisor a constant";
+    line(name, INPUTS, "at most 1.5", &mut ours, constant);
+}
+
+/// Prints the line of the lookup of each of the 2,048 words.
+fn look_up_line() {
+    let ours = |_| {
+        for word in 0..2048 {
+            black_box(layers::look_up(black_box(word)));
+        }
+    };
+    let plain = |_| {
+        for word in 0..2048 {
+            black_box(words::number(black_box(word)));
+        }
+    };
+    let name = "look-up of a word, all 2,048 words";
+    line(name, 2048, "at most 0.1", ours, plain);
+}
+
+/// Prints the line of scrambling, each block by another B.
+fn scrambling_line(blocks: &[Vec<u8>]) {
+    let mut out = [0; Format::Long.user_bits()];
+    let mut plain_out = out;
+    let ours = |i| {
+        for (b, block) in set(blocks, i).iter().enumerate() {
+            layers::scramble(black_box(b as u32), black_box(block), &mut out);
+            black_box(&out);
+        }
+    };
+    let plain = |i| {
+        for (b, block) in set(blocks, i).iter().enumerate() {
+            plain::scramble(black_box(b as u32), black_box(block), &mut plain_out);
+            black_box(&plain_out);
+        }
+    };
+    let name = "scrambling of 830 bits";
+    line(name, INPUTS, "at most 1.5", ours, plain);
+}
+
+pub fn layers() {
+    let mut random = Random::new(1);
+    let telegrams = inputs(&mut random, Format::Long.telegram_bits());
+    let blocks = inputs(&mut random, Format::Long.user_bits());
+    println!("Nanoseconds a call, medians of {REPETITIONS} repetitions of {INPUTS} random inputs.");
+    println!("Ours include the wrapper's test that each byte is a bit. Output buffers are");
+    println!("cleared before the first call only, for both.");
+    println!();
+    heading();
+    let by_g = plain::remainder::<G>;
+    division_lines("g", &telegrams, layers::remainder_g, G, by_g);
+    let by_fg = plain::remainder::<FG>;
+    division_lines("f*g", &telegrams, layers::remainder_fg, FG, by_fg);
+    look_up_line();
+    scrambling_line(&blocks);
+    println!();
+    println!("Plain: the second program's u128 register, its divisor a variable, and the same");
+    println!("loop with its divisor a constant; the second program's walk of the table from the");
+    println!("front; a loop with the same algorithm of scrambling.");
+}
