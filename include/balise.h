@@ -83,7 +83,7 @@ uint64_t balise_search(const uint8_t *capture, size_t capture_len);
 #define BALISE_READ_TURN(answer) ((unsigned)((uint64_t)(answer) >> 22 & 0x3ff))
 
 /* balise_search. */
-#define BALISE_PLACE(answer) ((size_t)((uint64_t)(answer) >> 32))
+#define BALISE_PLACE(answer) ((size_t)((uint64_t)(answer) >> 32 & 0xffff))
 
 /* ---- sizes, by format */
 
@@ -98,7 +98,7 @@ uint64_t balise_search(const uint8_t *capture, size_t capture_len);
 #define BALISE_NOT_A_BIT 2     /* a byte other than 0 or 1 */
 #define BALISE_OUTPUT_SHORT 3  /* the output is too short */
 #define BALISE_NO_PAIR 4       /* no pair gives a proper telegram */
-#define BALISE_SEAM 5          /* the ends of the window differ */
+#define BALISE_ENDS_DIFFER 5   /* the ends of the window differ */
 #define BALISE_NOT_DIVISIBLE 6 /* not divisible by g */
 #define BALISE_NO_TURN 7       /* no turn has this remainder; in check, not turn 0 */
 #define BALISE_CONTROL 8       /* the control bits are not 0, 0, 1 */

@@ -8,7 +8,7 @@ use native.Mathlib.Omega.{arith}
 use Rattle.formats.specs.declared.format.Format.{Format}
 use Rattle.formats.specs.declared.format.Format.the-variants.{Long, Short}
 use Rattle.formats.specs.declared.refusal.Refusal.{Refusal}
-use Rattle.formats.specs.declared.refusal.Refusal.the-variants.{Length, NotBit, OutputShort, NoPair, Seam, NotDivisible, NoTurn, Control, NotWord, OffStep, Repeating, Thinned, NoPlace}
+use Rattle.formats.specs.declared.refusal.Refusal.the-variants.{Length, NotBit, OutputShort, NoPair, EndsDiffer, NotDivisible, NoTurn, Control, NotWord, OffStep, Repeating, Thinned, NoPlace}
 use Rattle.formats.specs.Refused.{refusalNumber, triedCount}
 use Rattle.formats.specs.Outcome.{outcome}
 use Rattle.checker.specs.declared.Checked.the-variants.{Proper, Refused as NotProper}
@@ -38,7 +38,7 @@ number-fits Length = (omega arith, omega arith)
 number-fits NotBit = (omega arith, omega arith)
 number-fits OutputShort = (omega arith, omega arith)
 number-fits (NoPair tried) = (omega arith, omega arith)
-number-fits Seam = (omega arith, omega arith)
+number-fits EndsDiffer = (omega arith, omega arith)
 number-fits NotDivisible = (omega arith, omega arith)
 number-fits NoTurn = (omega arith, omega arith)
 number-fits Control = (omega arith, omega arith)
@@ -140,18 +140,18 @@ module _ (w out o : List ℕ) where
 
 -- ---- search
 
--- what bits 0 to 7, 8, 9, 10 to 21, 22 to 31 and 32 up of p are
+-- what bits 0 to 7, 8, 9, 10 to 21, 22 to 31 and 32 to 47 of p are
 pub record SearchBack (p number format flipped B turn place : ℕ) : Type 0 where
   pub number-is : p % 256 ≡ number
   pub format-is : p / 256 % 2 ≡ format
   pub flipped-is : p / 512 % 2 ≡ flipped
   pub B-is : p / 1024 % 4096 ≡ B
   pub turn-is : p / 4194304 % 1024 ≡ turn
-  pub place-is : p / 4294967296 ≡ place
+  pub place-is : p / 4294967296 % 65536 ≡ place
 
-search-back : (number format flipped B turn place : ℕ) → number < 256 → format < 2 → flipped < 2 → B < 4096 → turn < 1024
+search-back : (number format flipped B turn place : ℕ) → number < 256 → format < 2 → flipped < 2 → B < 4096 → turn < 1024 → place < 65536
     → SearchBack (searchFields number format flipped B turn place) number format flipped B turn place
-search-back number format flipped B turn place n f l b t =
+search-back number format flipped B turn place n f l b t p =
     record {
       number-is = omega arith;
       format-is = omega arith;
@@ -166,15 +166,17 @@ module _ (s : List ℕ) where
       → SearchBack (captureAsNumber (searchOf s)) 0 (formatNumber (reading .format)) (flippedNumber (reading .flipped)) (reading .scrambling) (reading .turn) place
   found-back place reading e =
       let fits = found-fits s place reading e .0 in
+      let within = found-fits s place reading e .1 in
       rw e
       (search-back 0 (formatNumber (reading .format)) (flippedNumber (reading .flipped)) (reading .scrambling) (reading .turn) place (omega arith)
       (format-fits (reading .format))
       (flipped-fits (reading .flipped))
       (fits .scrambling)
-      (fits .turn))
+      (fits .turn)
+      (omega arith))
 
   pub search-refusal-back : (refusal : Refusal) → searchOf s ≡ NotFound refusal
       → SearchBack (captureAsNumber (searchOf s)) (refusalNumber refusal) 0 0 0 0 0
   search-refusal-back refusal e =
       rw e
-      (search-back (refusalNumber refusal) 0 0 0 0 0 (number-fits refusal .1) (omega arith) (omega arith) (omega arith) (omega arith))
+      (search-back (refusalNumber refusal) 0 0 0 0 0 (number-fits refusal .1) (omega arith) (omega arith) (omega arith) (omega arith) (omega arith))

@@ -44,7 +44,7 @@ abbrev pub turnIn : ReadAnswer → ℕ
 turnIn (Read reading) = reading .turn
 turnIn (NotRead refusal) = 0
 
--- bits 0 to 7 the number, 8 the format, 9 whether it was flipped, 10 to 21 B, 22 to 31 the turn, 32 up the place
+-- bits 0 to 7 the number, 8 the format, 9 whether it was flipped, 10 to 21 B, 22 to 31 the turn, 32 to 47 the place
 abbrev pub searchFields : ℕ → ℕ → ℕ → ℕ → ℕ → ℕ → ℕ
 searchFields number format flipped B turn place = readFields number format flipped B (field 1024 turn place)
 

@@ -15,14 +15,14 @@ use Rattle.bits.proofs.First.{not-both}
 use Rattle.bits.proofs.Tests.{is-true, is-false}
 use Rattle.formats.specs.declared.format.Format.{Format}
 use Rattle.formats.specs.declared.format.Format.the-variants.{Long, Short}
-use Rattle.formats.specs.declared.refusal.Refusal.the-variants.{Seam, NoPlace}
+use Rattle.formats.specs.declared.refusal.Refusal.the-variants.{EndsDiffer, NoPlace}
 use Rattle.formats.specs.Numbers.{numbersOf, windowBits}
 use Rattle.formats.specs.Outcome.{outcome, orRefuse}
 use Rattle.reader.specs.declared.Reading.{Reading}
 use Rattle.reader.specs.declared.ReadAnswer.{ReadAnswer}
 use Rattle.reader.specs.declared.ReadAnswer.the-variants.{Read, Refused as NotRead}
-use Rattle.reader.specs.Reads.{seamAgrees, readingOf, readAs}
-use Rattle.reader.proofs.Steps.{length-fits, fits-window, seam-refused}
+use Rattle.reader.specs.Reads.{endsAgree, readingOf, readAs}
+use Rattle.reader.proofs.Steps.{length-fits, fits-window, ends-refused}
 use Rattle.reader.proofs.Accepted.{accepted-passed}
 use Rattle.reader.proofs.Room.{answerOf, answer-room}
 use Rattle.captures.specs.Captures.{windowAt, readAt, isRead, accepts}
@@ -67,11 +67,11 @@ module _ (x : Format) (s : List ℕ) (p : ℕ) where
     unfolding readAt
     reads-by = ap answerOf (length-fits x (windowAt x s p) zeros (fits-window x (length (windowAt x s p)) window-length))
 
-    -- the seam differs
-    pub seam-differs : T (allBits s) → seamAgrees (numbersOf x) (windowAt x s p) ≡ false → readAt x s p ≡ NotRead Seam
-    seam-differs h e =
+    -- the ends differ
+    pub ends-differ : T (allBits s) → endsAgree (numbersOf x) (windowAt x s p) ≡ false → readAt x s p ≡ NotRead EndsDiffer
+    ends-differ h e =
         reads-by
-        ∙ ap answerOf (seam-refused x (windowAt x s p) zeros (is-true (allBits (windowAt x s p)) (window-bits h)) (zeros-room x) e)
+        ∙ ap answerOf (ends-refused x (windowAt x s p) zeros (is-true (allBits (windowAt x s p)) (window-bits h)) (zeros-room x) e)
 
     -- a reading is of the format that is read
     pub format-read : (reading : Reading) → readAt x s p ≡ Read reading → reading .format ≡ x

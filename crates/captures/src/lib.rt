@@ -30,8 +30,8 @@ fn window_bits(format: Format) -> usize
     format::telegram_bits(format) + format::extra_bits(format)
 }
 
-// One try: reads the format's window at the place, if all of it fits in the capture, whose bytes are known to be bits. The seam is
-// tested first: a place whose seam differs costs a few comparisons and no buffer.
+// One try: reads the format's window at the place, if all of it fits in the capture, whose bytes are known to be bits. The ends are
+// tested first: a place whose ends differ costs a few comparisons and no buffer.
 fn attempt(format: Format, capture: &[u8], place: usize) -> ReadAnswer
     requires { ⌜ T (allBits (now capture)) ⌝ }
     requires { ⌜ place ≤ length (now capture) ⌝ }
@@ -43,8 +43,8 @@ fn attempt(format: Format, capture: &[u8], place: usize) -> ReadAnswer
     }
     let end = place + size;
     let window = &capture[place..end];
-    if !reader::seam_agrees(format, window) {
-        return ReadAnswer::Refused(Refusal::Seam);
+    if !reader::ends_agree(format, window) {
+        return ReadAnswer::Refused(Refusal::EndsDiffer);
     }
     let mut output = [0u8; Long::M];
     reader::read_bits(format, window, &mut output)

@@ -10,13 +10,13 @@ use Rattle.bits.specs.Bits.{both, allBits}
 use Rattle.bits.proofs.Both.{both-left, both-right, both-of}
 use Rattle.formats.specs.declared.format.Format.{Format}
 use Rattle.formats.specs.declared.refusal.Refusal.{Refusal}
-use Rattle.formats.specs.declared.refusal.Refusal.the-variants.{Length, NotBit, OutputShort, NoPair, Seam, NotDivisible, NoTurn, Control, NotWord, OffStep, Repeating, Thinned, NoPlace}
+use Rattle.formats.specs.declared.refusal.Refusal.the-variants.{Length, NotBit, OutputShort, NoPair, EndsDiffer, NotDivisible, NoTurn, Control, NotWord, OffStep, Repeating, Thinned, NoPlace}
 use Rattle.formats.specs.Numbers.{numbersOf}
 use Rattle.cyclic.specs.Check.{same, divisible, unturned}
 use Rattle.telegrams.specs.Telegram.{control}
 use Rattle.telegrams.specs.Fields.{controlOf, allWords, wellFormed}
 use Rattle.conditions.specs.Conditions.{offStep, notRepeating, thinnedOut, proper}
-use Rattle.checker.specs.Applies.{Fails, Applies}
+use Rattle.checker.specs.Applies.{Fails, CheckApplies}
 use Rattle.checker.proofs.Lengths.{one-format}
 use Rattle.checker.proofs.WellFormed.{Formed, formed, well-formed}
 
@@ -26,7 +26,7 @@ testOf format b Length = true
 testOf format b NotBit = allBits b
 testOf format b OutputShort = true
 testOf format b (NoPair tried) = true
-testOf format b Seam = true
+testOf format b EndsDiffer = true
 testOf format b NotDivisible = divisible (numbersOf format) b
 testOf format b NoTurn = unturned (numbersOf format) b
 testOf format b Control = same (controlOf (numbersOf format) b) control
@@ -42,12 +42,12 @@ module _ (format : Format) (b : List ℕ) (size : length b ≡ numbersOf format 
   fails-here r (f, e, h) =
       subst (λ (g : Format). T (testOf g b r) → ⊥) (one-format (length b) f format e size) h
 
-  pub test-fails : (r : Refusal) → Applies r b → T (testOf format b r) → ⊥
+  pub test-fails : (r : Refusal) → CheckApplies b r → T (testOf format b r) → ⊥
   test-fails Length a t = a format size
   test-fails NotBit a t = a t
   test-fails OutputShort a t = a
   test-fails (NoPair tried) a t = a
-  test-fails Seam a t = a
+  test-fails EndsDiffer a t = a
   test-fails NotDivisible a t = fails-here NotDivisible a t
   test-fails NoTurn a t = fails-here NoTurn a t
   test-fails Control a t = fails-here Control a t
@@ -57,12 +57,12 @@ module _ (format : Format) (b : List ℕ) (size : length b ≡ numbersOf format 
   test-fails Thinned a t = fails-here Thinned a t
   test-fails NoPlace a t = a
 
-  pub failed-applies : (r : Refusal) → (T (testOf format b r) → ⊥) → Applies r b
+  pub failed-applies : (r : Refusal) → (T (testOf format b r) → ⊥) → CheckApplies b r
   failed-applies Length h = absurd (h tt)
   failed-applies NotBit h = h
   failed-applies OutputShort h = h tt
   failed-applies (NoPair tried) h = h tt
-  failed-applies Seam h = h tt
+  failed-applies EndsDiffer h = h tt
   failed-applies NotDivisible h = (format, size, h)
   failed-applies NoTurn h = (format, size, h)
   failed-applies Control h = (format, size, h)
@@ -93,7 +93,7 @@ module _ (format : Format) (b : List ℕ) where
         | NotBit ↦ form .bits
         | OutputShort ↦ tt
         | NoPair tried ↦ tt
-        | Seam ↦ tt
+        | EndsDiffer ↦ tt
         | NotDivisible ↦ form .divides
         | NoTurn ↦ form .turn
         | Control ↦ form .has-control

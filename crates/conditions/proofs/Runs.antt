@@ -14,9 +14,9 @@ use Rattle.conditions.specs.Runs.{longestAfter, longest, longestRound}
 abbrev strip : ℕ → List Bool
 strip n = true ∷ false ∷ (replicate n true ++ false ∷ true ∷ [])
 
--- a ring whose longest run goes over the seam: 15 valid words at its end, and n at its start
-abbrev seam : ℕ → List Bool
-seam n = replicate n true ++ false ∷ true ∷ false ∷ replicate 15 true
+-- a ring whose longest run goes over the end: 15 valid words at its end, and n at its start
+abbrev over-end : ℕ → List Bool
+over-end n = replicate n true ++ false ∷ true ∷ false ∷ replicate 15 true
 
 -- the run counted, and whether the limit allows it
 abbrev tried : ℕ → ℕ → ℕ × Bool
@@ -33,8 +33,8 @@ answers =
     tried (longest (strip 10)) (limitAt Long 2) ∷ tried (longest (strip 11)) (limitAt Long 2) ∷
     tried (longest (strip 10)) (limitAt Long 9) ∷ tried (longest (strip 11)) (limitAt Long 9) ∷
     tried (longestRound (strip 30)) 30 ∷ tried (longestRound (strip 31)) 30 ∷
-    tried (longestRound (seam 15)) 30 ∷ tried (longestRound (seam 16)) 30 ∷
-    tried (longest (seam 16)) 30 ∷ tried (longestRound (replicate 31 true)) 30 ∷
+    tried (longestRound (over-end 15)) 30 ∷ tried (longestRound (over-end 16)) 30 ∷
+    tried (longest (over-end 16)) 30 ∷ tried (longestRound (replicate 31 true)) 30 ∷
     []
 
 abbrev expected : List (ℕ × Bool)
@@ -52,7 +52,7 @@ expected =
     (16, true) ∷ (62, false) ∷
     []
 
--- the last two: on a strip the run over the seam is not seen; a ring all valid fails
+-- the last two: on a strip the run over the end is not seen; a ring all valid fails
 pub runs-counted : answers ≡ expected
 unfolding longestAfter limitAt
 runs-counted = refl

@@ -28,7 +28,7 @@ use Rattle.telegrams.proofs.WellFormed.{from-parts}
 use Rattle.reader.specs.declared.Reading.{Reading}
 use Rattle.reader.specs.declared.ReadAnswer.the-variants.{Read}
 use Rattle.reader.specs.Windows.{oriented, cut}
-use Rattle.reader.specs.Reads.{seamAgrees, isFlipped, turnedBack, telegramIn, readingOf, readOf}
+use Rattle.reader.specs.Reads.{endsAgree, isFlipped, turnedBack, telegramIn, readingOf, readOf}
 use Rattle.reader.proofs.Windows.{length-oriented, bits-oriented, oriented-twice, cut-oriented, window-of}
 use Rattle.reader.proofs.Steps.{length-fits, fits-window}
 use Rattle.reader.proofs.Accepted.{Passed, accepted-passed}
@@ -93,14 +93,14 @@ module _ (format : Format) (w out : List ℕ) (reading : Reading) (o : List ℕ)
 
   -- and the window is cut from it
   found-window : w ≡ cut (windowBits (numbersOf format)) (p .t) (isFlipped (numbersOf format) (turnedBack (numbersOf format) (p .t) w)) (telegramIn (numbersOf format) (p .t) w)
-  unfolding telegramIn turnedBack seamAgrees
+  unfolding telegramIn turnedBack endsAgree
   found-window =
       let F = numbersOf format in
       let k = windowBits F in
       let x = turnedBack F (p .t) w in
       let flipped = isFlipped F x in
       let some : 0 < length (oriented flipped x) = omega (arith, length-oriented flipped x, back-size, found-below) in
-      sym (window-of (F .n) (F .r) (p .t) w (extra-fewer format) (omega (arith, found-below)) size (same-true (drop (F .n) w) (take (F .r) w) (p .seam)))
+      sym (window-of (F .n) (F .r) (p .t) w (extra-fewer format) (omega (arith, found-below)) size (same-true (drop (F .n) w) (take (F .r) w) (p .agrees)))
       ∙ sym (cut-oriented k (p .t) flipped (oriented flipped x) some ∙ ap (around k (p .t)) (oriented-twice flipped x back-bits))
 
 -- what an accepted window is cut from

@@ -26,8 +26,8 @@ use Rattle.telegrams.specs.Fields.{controlOf, scramblingOf, allWords, userBitsO
 use Rattle.telegrams.proofs.Checked.{checked-remainder}
 use Rattle.telegrams.proofs.WellFormed.{parts}
 use Rattle.reader.specs.Windows.{oriented, cut}
-use Rattle.reader.specs.Reads.{seamAgrees, isFlipped, turnedBack, telegramIn, readingOf, readTelegram, readOf}
-use Rattle.reader.proofs.Windows.{length-oriented, bits-oriented, oriented-twice, cut-oriented, ring-front, ring-seam}
+use Rattle.reader.specs.Reads.{endsAgree, isFlipped, turnedBack, telegramIn, readingOf, readTelegram, readOf}
+use Rattle.reader.proofs.Windows.{length-oriented, bits-oriented, oriented-twice, cut-oriented, ring-front, ring-ends}
 use Rattle.reader.proofs.Steps.{length-fits, fits-window, turn-found, accepted}
 use Rattle.demands.specs.Answers.{gaveBlock}
 
@@ -75,13 +75,13 @@ module _ (format : Format) (x : List ℕ) (t : ℕ) (bits : T (allBits x)) (size
   ring-turned : take (numbersOf format .n) (around (windowBits (numbersOf format)) t x) ≡ turned t x
   ring-turned = ring-front (numbersOf format .n) (numbersOf format .r) t x size (omega arith)
 
-  -- its seam agrees
-  ring-agrees : seamAgrees (numbersOf format) (around (windowBits (numbersOf format)) t x) ≡ true
-  unfolding seamAgrees
+  -- its ends agree
+  ring-agrees : endsAgree (numbersOf format) (around (windowBits (numbersOf format)) t x) ≡ true
+  unfolding endsAgree
   ring-agrees =
       let F = numbersOf format in
       let w = around (windowBits F) t x in
-      equal-same (drop (F .n) w) (take (F .r) w) (ring-seam (F .n) (F .r) t x size)
+      equal-same (drop (F .n) w) (take (F .r) w) (ring-ends (F .n) (F .r) t x size)
 
   -- g divides its first n bits
   ring-divisible : divisible (numbersOf format) (take (numbersOf format .n) (around (windowBits (numbersOf format)) t x)) ≡ true

@@ -13,7 +13,7 @@ use Rattle.bits.proofs.Ring.{length-around, allBits-around}
 use Rattle.bits.proofs.Tests.{is-true}
 use Rattle.formats.specs.declared.format.Format.{Format}
 use Rattle.formats.specs.declared.format.Format.the-variants.{Long, Short}
-use Rattle.formats.specs.declared.refusal.Refusal.the-variants.{OutputShort, Seam, NoTurn}
+use Rattle.formats.specs.declared.refusal.Refusal.the-variants.{OutputShort, EndsDiffer, NoTurn}
 use Rattle.formats.specs.Numbers.{numbersOf, windowBits, long, short}
 use Rattle.formats.specs.Outcome.{Outcome}
 use Rattle.cyclic.proofs.Same.{other-same}
@@ -24,9 +24,9 @@ use Rattle.reader.specs.declared.Reading.{Reading}
 use Rattle.reader.specs.declared.ReadAnswer.{ReadAnswer}
 use Rattle.reader.specs.declared.ReadAnswer.the-variants.{Read}
 use Rattle.reader.specs.Windows.{oriented, cut}
-use Rattle.reader.specs.Reads.{seamAgrees, readAs, readOf}
+use Rattle.reader.specs.Reads.{endsAgree, readAs, readOf}
 use Rattle.reader.proofs.Windows.{length-oriented, bits-oriented, length-cut, cut-oriented}
-use Rattle.reader.proofs.Steps.{length-fits, fits-window, room-refused, seam-refused, turn-refused}
+use Rattle.reader.proofs.Steps.{length-fits, fits-window, room-refused, ends-refused, turn-refused}
 use Rattle.demands.specs.FirstPair.{FirstProper}
 use Rattle.demands.specs.Answers.{wrotePair, gaveBlock, refusedWith}
 use Rattle.demands.specs.Demand3.{SomeProper, Wrote, Demand3}
@@ -34,7 +34,7 @@ use Rattle.demands.proofs.Encoder.{first-answered}
 use Rattle.demands.proofs.CutAccepted.{formed-code}
 use Rattle.demands.proofs.Reader.{fronts-same, cut-read}
 use Rattle.demands.proofs.Wrote.{some-first, wrote-proper, wrote-formed, wrote-scrambling, wrote-userBits, proper-apart}
-use Rattle.demands.proofs.Fifteen.{seam-differs, seam-differs-flipped}
+use Rattle.demands.proofs.Fifteen.{ends-differ, ends-differ-flipped}
 use Rattle.demands.proofs.ThreeRounds.{rounds-agree, rounds-divisible, rounds-no-turn}
 
 -- encode answers with the first proper pair and writes its telegram
@@ -88,26 +88,26 @@ one-block format u v B esb C e b c wrote other s t p q f g same =
 
 -- ---- a window of 462 bits of a long telegram
 
--- with at most 14 bits changed its seam does not agree
-short-seam : (b : List ℕ) → length b ≡ 1023 → T (allBits b) → T (notRepeating Long b) → (t : ℕ) (flipped : Bool) (w : List ℕ) → length w ≡ 462
-    → differences (cut 462 t flipped b) w ≤ 14 → seamAgrees short w ≡ false
-unfolding seamAgrees cut
-short-seam b all bits apart t true w size few =
-    other-same (drop 341 w) (take 121 w) (λ e. seam-differs-flipped b all apart bits t w size few (sym e))
-short-seam b all bits apart t false w size few = other-same (drop 341 w) (take 121 w) (λ e. seam-differs b all apart t w size few (sym e))
+-- with at most 14 bits changed its ends do not agree
+short-ends : (b : List ℕ) → length b ≡ 1023 → T (allBits b) → T (notRepeating Long b) → (t : ℕ) (flipped : Bool) (w : List ℕ) → length w ≡ 462
+    → differences (cut 462 t flipped b) w ≤ 14 → endsAgree short w ≡ false
+unfolding endsAgree cut
+short-ends b all bits apart t true w size few =
+    other-same (drop 341 w) (take 121 w) (λ e. ends-differ-flipped b all apart bits t w size few (sym e))
+short-ends b all bits apart t false w size few = other-same (drop 341 w) (take 121 w) (λ e. ends-differ b all apart t w size few (sym e))
 
 -- so it is refused
 short-from-long : (u : List ℕ) (B esb : ℕ) (b : List ℕ) → Wrote Long u B esb b → (t : ℕ) → t < 1023 → (flipped : Bool)
     → (w : List ℕ) → T (allBits w) → length w ≡ 462 → differences (cut 462 t flipped b) w ≤ 14
     → (out : List ℕ)
-    → (length out < 210 → readOf w out ≡ refusedWith OutputShort out) × (210 ≤ length out → readOf w out ≡ refusedWith Seam out)
+    → (length out < 210 → readOf w out ≡ refusedWith OutputShort out) × (210 ≤ length out → readOf w out ≡ refusedWith EndsDiffer out)
 short-from-long u B esb b wrote t below flipped w bits size few out =
     let h = parts long b (wrote-formed Long u B esb b wrote) in
     let apart = proper-apart Long b (wrote-proper Long u B esb b wrote) in
     let fits = length-fits Short w out (fits-window Short (length w) size) in
     let are-bits = is-true (allBits w) bits in (
       λ less. fits ∙ room-refused Short w out are-bits less,
-      λ room. fits ∙ seam-refused Short w out are-bits room (short-seam b (h .size) (h .bits) apart t flipped w size few),
+      λ room. fits ∙ ends-refused Short w out are-bits room (short-ends b (h .size) (h .bits) apart t flipped w size few),
     )
 
 -- ---- a window of 1100 bits of a short telegram

@@ -11,9 +11,9 @@ use Rattle.bits.specs.Bits.{allBits}
 use Rattle.bits.specs.Search.{First, found, none}
 use Rattle.formats.specs.declared.format.Format.{Format}
 use Rattle.formats.specs.declared.refusal.Refusal.{Refusal}
-use Rattle.formats.specs.declared.refusal.Refusal.the-variants.{Length, NotBit, OutputShort, NoPair, Seam, NotDivisible, NoTurn, Control, NotWord, OffStep, Repeating, Thinned, NoPlace}
+use Rattle.formats.specs.declared.refusal.Refusal.the-variants.{Length, NotBit, OutputShort, NoPair, EndsDiffer, NotDivisible, NoTurn, Control, NotWord, OffStep, Repeating, Thinned, NoPlace}
 use Rattle.formats.specs.Numbers.{numbersOf}
-use Rattle.formats.specs.Refused.{refusalNumber}
+use Rattle.formats.specs.Refused.{refusalNumber, Lowest}
 use Rattle.formats.specs.Outcome.{Outcome, outcome}
 use Rattle.formats.proofs.Fits.{fit-or-none, fits-as, fits-none}
 use Rattle.formats.proofs.Lowest.{NoneBelow, one-up, lowest-one, past, test}
@@ -25,7 +25,7 @@ use Rattle.encoder.specs.declared.Encoded.the-variants.{Pair, Refused}
 use Rattle.encoder.specs.Encoding.{telegramAt, firstPair, written, encodeAs, encodeOf}
 use Rattle.encoder.proofs.Steps.{length-refused, length-fits}
 use Rattle.demands.specs.FirstPair.{NoneProper}
-use Rattle.demands.specs.Applies.{Lowest, BlockOf, EncodeApplies}
+use Rattle.demands.specs.Applies.{BlockOf, EncodeApplies}
 use Rattle.demands.specs.Demand1.{FrontWritten}
 use Rattle.demands.proofs.Encoder.{found-proper, missing-proper}
 use Rattle.demands.proofs.Lengths.{blockBits, blocks-apart, of-format}
@@ -37,7 +37,7 @@ up-to-4 u out Length a = lit≤ tt
 up-to-4 u out NotBit a = lit≤ tt
 up-to-4 u out OutputShort a = lit≤ tt
 up-to-4 u out (NoPair tried) a = lit≤ tt
-up-to-4 u out Seam a = absurd a
+up-to-4 u out EndsDiffer a = absurd a
 up-to-4 u out NotDivisible a = absurd a
 up-to-4 u out NoTurn a = absurd a
 up-to-4 u out Control a = absurd a

@@ -1,4 +1,4 @@
--- A window of 462 bits of a long telegram that meets condition 3, with at most 14 bits changed, has a seam that does not agree: of the
+-- A window of 462 bits of a long telegram that meets condition 3, with at most 14 bits changed, has ends that do not agree: of the
 -- pairs of places (j, j + 341), j below 121, at least 15 differ, and a change mends at most one of them. Assumes nothing.
 use mathlib.Core.List.{List}
 use mathlib.Core.Path.{_≡_, sym, ap, ap₂, _∙_}
@@ -26,13 +26,13 @@ differences-around j k p q b =
     ∙ differences-append (around j p b) (around j q b) (around k (p + j) b) (around k (q + j) b)
     (length-around j p b ∙ sym (length-around j q b))
 
--- if the seam of w agrees, w differs from x in as many places as the seam of x, or more
-seam-changes : (r d : ℕ) (x w : List ℕ) → length x ≡ r + d + r → length w ≡ r + d + r → take r w ≡ drop (r + d) w
+-- if the ends of w agree, w differs from x in as many places as the ends of x do from each other, or more
+ends-changes : (r d : ℕ) (x w : List ℕ) → length x ≡ r + d + r → length w ≡ r + d + r → take r w ≡ drop (r + d) w
     → differences (take r x) (drop (r + d) x) ≤ differences x w
-seam-changes r d x w e f seam =
+ends-changes r d x w e f agree =
     let first = differences-cut r x w in
     let last = simp drop-drop at (differences-drop d (drop r x) (drop r w)) in
-    let turned = ap (λ (l : List ℕ). differences l (drop (r + d) x)) seam ∙ differences-symmetric (drop (r + d) w) (drop (r + d) x) in
+    let turned = ap (λ (l : List ℕ). differences l (drop (r + d) x)) agree ∙ differences-symmetric (drop (r + d) w) (drop (r + d) x) in
     omega (arith, differences-triangle (take r x) (take r w) (drop (r + d) x) (simp length-take (omega arith)) (simp (length-take, length-drop) (omega arith)))
 
 module _ (b : List ℕ) (size : length b ≡ 1023) (condition : T (notRepeating Long b)) where
@@ -70,20 +70,20 @@ module _ (b : List ℕ) (size : length b ≡ 1023) (condition : T (notRepeating 
       rw (parts, differences-around a, differences-around 110, near, far) (omega (arith, blocks-apart 5 j))
 
   -- the same as parts of a window
-  window-seam : (t : ℕ) → 15 ≤ differences (take 121 (around 462 t b)) (drop 341 (around 462 t b))
-  window-seam t = rw (take-around 121 341 t b, drop-around 341 121 t b) (fifteen t)
+  window-ends : (t : ℕ) → 15 ≤ differences (take 121 (around 462 t b)) (drop 341 (around 462 t b))
+  window-ends t = rw (take-around 121 341 t b, drop-around 341 121 t b) (fifteen t)
 
-  -- the seam of a window with at most 14 bits changed does not agree
-  pub seam-differs : (t : ℕ) (w : List ℕ) → length w ≡ 462 → differences (around 462 t b) w ≤ 14 → take 121 w ≡ drop 341 w → ⊥
-  seam-differs t w f few seam =
-      omega (arith, window-seam t, seam-changes 121 220 (around 462 t b) w (length-around 462 t b) f seam)
+  -- the ends of a window with at most 14 bits changed do not agree
+  pub ends-differ : (t : ℕ) (w : List ℕ) → length w ≡ 462 → differences (around 462 t b) w ≤ 14 → take 121 w ≡ drop 341 w → ⊥
+  ends-differ t w f few agree =
+      omega (arith, window-ends t, ends-changes 121 220 (around 462 t b) w (length-around 462 t b) f agree)
 
   -- nor that of a window cut flipped
-  pub seam-differs-flipped : T (allBits b) → (t : ℕ) (w : List ℕ) → length w ≡ 462 → differences (flip (around 462 t b)) w ≤ 14
+  pub ends-differ-flipped : T (allBits b) → (t : ℕ) (w : List ℕ) → length w ≡ 462 → differences (flip (around 462 t b)) w ≤ 14
       → take 121 w ≡ drop 341 w → ⊥
-  seam-differs-flipped bits t w f few seam =
+  ends-differ-flipped bits t w f few agree =
       let x : List ℕ = around 462 t b in
       let xbits = allBits-around 462 t b bits in
       let same = differences-flip (take 121 x) (drop 341 x) (allBits-take 121 x xbits) (allBits-drop 341 x xbits) in
-      let changed = seam-changes 121 220 (flip x) w (length-flip x ∙ length-around 462 t b) f seam in
-      omega (arith, window-seam t, rw (flip-take, flip-drop) at same)
+      let changed = ends-changes 121 220 (flip x) w (length-flip x ∙ length-around 462 t b) f agree in
+      omega (arith, window-ends t, rw (flip-take, flip-drop) at same)

@@ -11,9 +11,9 @@ use lib.ListN.{length, take, drop}
 use Rattle.bits.specs.Bits.{allBits}
 use Rattle.formats.specs.declared.format.Format.{Format}
 use Rattle.formats.specs.declared.refusal.Refusal.{Refusal}
-use Rattle.formats.specs.declared.refusal.Refusal.the-variants.{Length, NotBit, OutputShort, NoPair, Seam, NotDivisible, NoTurn, Control, NotWord, OffStep, Repeating, Thinned, NoPlace}
+use Rattle.formats.specs.declared.refusal.Refusal.the-variants.{Length, NotBit, OutputShort, NoPair, EndsDiffer, NotDivisible, NoTurn, Control, NotWord, OffStep, Repeating, Thinned, NoPlace}
 use Rattle.formats.specs.Numbers.{Numbers, numbersOf, windowBits, fOf}
-use Rattle.formats.specs.Refused.{refusalNumber}
+use Rattle.formats.specs.Refused.{refusalNumber, Lowest}
 use Rattle.formats.specs.Outcome.{Outcome, outcome}
 use Rattle.formats.proofs.Fits.{fit-or-none, fits-as, fits-none}
 use Rattle.formats.proofs.Lowest.{NoneBelow, one-up, lowest-one, past, test}
@@ -31,9 +31,9 @@ use Rattle.telegrams.proofs.Made.{length-userBits}
 use Rattle.reader.specs.declared.Reading.{Reading}
 use Rattle.reader.specs.declared.ReadAnswer.{ReadAnswer}
 use Rattle.reader.specs.declared.ReadAnswer.the-variants.{Read, Refused}
-use Rattle.reader.specs.Reads.{seamAgrees, isFlipped, turnedBack, telegramIn, readingOf, readTelegram, readTurn, readAs, readOf}
+use Rattle.reader.specs.Reads.{endsAgree, isFlipped, turnedBack, telegramIn, readingOf, readTelegram, readTurn, readAs, readOf}
 use Rattle.reader.proofs.Steps.{length-refused, length-fits}
-use Rattle.demands.specs.Applies.{Lowest, WindowOf, AtTurn, TelegramOf, ReadApplies}
+use Rattle.demands.specs.Applies.{WindowOf, AtTurn, TelegramOf, ReadApplies}
 use Rattle.demands.specs.Demand1.{FrontWritten}
 use Rattle.demands.proofs.Lengths.{windows-apart, of-format}
 use Rattle.demands.proofs.Fronts.{room-holds, room-fails, front-written}
@@ -44,7 +44,7 @@ up-to-9 w out Length a = lit≤ tt
 up-to-9 w out NotBit a = lit≤ tt
 up-to-9 w out OutputShort a = lit≤ tt
 up-to-9 w out (NoPair tried) a = absurd a
-up-to-9 w out Seam a = lit≤ tt
+up-to-9 w out EndsDiffer a = lit≤ tt
 up-to-9 w out NotDivisible a = lit≤ tt
 up-to-9 w out NoTurn a = lit≤ tt
 up-to-9 w out Control a = lit≤ tt
@@ -123,7 +123,7 @@ module _ (w out : List ℕ) where
 
     -- refusals 2, 3, 5 and 6, and then the turn
     right-as : NoneBelow (ReadApplies w out) 2 → Right (readAs format w out)
-    unfolding readAs seamAgrees
+    unfolding readAs endsAgree
     right-as least =
         let F = numbersOf format in
         let v = take (F .n) w in
@@ -134,10 +134,10 @@ module _ (w out : List ℕ) where
         (λ f. (format, size, room-fails (F .m) (length out) f)) _
         (λ room least₄.
         let least₅ = past (ReadApplies w out) count (NoPair 4194304) refl (λ a. a) least₄ in
-        step Seam refl least₅ (same (drop (F .n) w) (take (F .r) w))
+        step EndsDiffer refl least₅ (same (drop (F .n) w) (take (F .r) w))
         (λ t a. here (λ (F : Numbers). drop (F .n) w ≡ take (F .r) w → ⊥) a (same-equal (drop (F .n) w) (take (F .r) w) t))
         (λ f. (format, size, λ e. f (same-of (drop (F .n) w) (take (F .r) w) e))) _
-        (λ seam least₆. step NotDivisible refl least₆ (divisible F v)
+        (λ agree least₆. step NotDivisible refl least₆ (divisible F v)
         (λ t a. here (λ (F : Numbers). T (divisible F (take (F .n) w)) → ⊥) a t)
         (λ f. (format, size, f)) _
         (λ divided least₇. right-turn (leb→le (F .m) (length out) room) least₇ (turnOf F (remainder (fOf F) v)) refl))))

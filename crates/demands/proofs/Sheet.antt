@@ -4,7 +4,7 @@ use mathlib.Core.Bool.{true}
 use mathlib.Core.List.{List, [], _∷_, _++_}
 use Prim.Native.Nat.{ℕ}
 use lib.Dec.{lit≤}
-use lib.ListN.{length, take, replicate}
+use lib.ListN.{getD, length, take, replicate}
 use Rattle.bits.specs.Bits.{allBits, numberFrom, bitsOf}
 use Rattle.formats.specs.declared.format.Format.the-variants.{Long, Short}
 use Rattle.formats.specs.declared.refusal.Refusal.the-variants.{NoTurn}
@@ -20,9 +20,9 @@ use Rattle.cyclic.specs.Check.{same, divisible, turnOf}
 use Rattle.cyclic.proofs.Laws.{shortFacts, zeros}
 use Rattle.reader.specs.declared.ReadAnswer.{ReadAnswer}
 use Rattle.reader.specs.declared.ReadAnswer.the-variants.{Refused}
-use Rattle.reader.specs.Reads.{seamAgrees, readAs, readOf}
+use Rattle.reader.specs.Reads.{readValues, endsAgree, readAs, readOf}
 use Rattle.reader.proofs.Steps.{length-fits, turn-refused}
-use Rattle.demands.specs.BenchSheet.{answerNumber, refusedRead, answers, sheet}
+use Rattle.demands.specs.BenchSheet.{refusedRead, answers, sheet}
 use Rattle.demands.proofs.ThreeRounds.{zero-no-turn}
 
 -- W10: 462 zeros pass the tests before the turn, and leave the remainder 0 by f
@@ -30,9 +30,9 @@ zeros-bits : allBits (replicate 462 0) ≡ true
 unfolding allBits
 zeros-bits = refl
 
-zeros-seam : seamAgrees short (replicate 462 0) ≡ true
-unfolding seamAgrees same
-zeros-seam = refl
+zeros-ends : endsAgree short (replicate 462 0) ≡ true
+unfolding endsAgree same
+zeros-ends = refl
 
 zeros-divisible : divisible short (replicate 341 0) ≡ true
 unfolding divisible same remainder remainderFrom step sum gOf polynomial coefficientsBelow coefficientOf
@@ -46,17 +46,17 @@ zeros-read : readOf (replicate 462 0) (replicate 210 0) ≡ outcome (Refused NoT
 unfolding fitOf
 zeros-read =
     length-fits Short (replicate 462 0) (replicate 210 0) refl
-    ∙ turn-refused Short (replicate 462 0) (replicate 210 0) zeros-bits (lit≤ tt) zeros-seam zeros-divisible
+    ∙ turn-refused Short (replicate 462 0) (replicate 210 0) zeros-bits (lit≤ tt) zeros-ends zeros-divisible
     (ap (turnOf short) zeros-rest ∙ zero-no-turn short shortFacts)
 
 no-turn : refusedRead (replicate 462 0) ≡ 7
 unfolding refusedRead
-no-turn = ap (λ (o : Outcome ReadAnswer). answerNumber (o .answer)) zeros-read
+no-turn = ap (λ (o : Outcome ReadAnswer). getD (readValues (o .answer)) 0 0) zeros-read
 
 -- W11: the last bit made 1
-seam : refusedRead (replicate 461 0 ++ (1 ∷ [])) ≡ 5
-unfolding refusedRead readOf readAs fitOf allBits seamAgrees same
-seam = refl
+ends-differ : refusedRead (replicate 461 0 ++ (1 ∷ [])) ≡ 5
+unfolding refusedRead readOf readAs fitOf allBits endsAgree same
+ends-differ = refl
 
 -- W12: 461 zeros
 length-fits-none : refusedRead (replicate 461 0) ≡ 1
@@ -74,4 +74,4 @@ computed = refl
 
 pub bench-sheet : answers ≡ sheet
 unfolding open-sheet sheet
-bench-sheet = computed ∙ rw (no-turn, seam, length-fits-none)
+bench-sheet = computed ∙ rw (no-turn, ends-differ, length-fits-none)

@@ -1,4 +1,4 @@
--- A window of 1100 bits of a short telegram going round: three rounds and 77 bits more, so that the seam agrees, the long g divides the
+-- A window of 1100 bits of a short telegram going round: three rounds and 77 bits more, so that the ends agree, the long g divides the
 -- first 1023 bits, and the long f leaves the remainder 0, which is that of no turn. Assumes nothing.
 use mathlib.Core.Path.{_≡_, refl, sym, ap, ap₂, _∙_}
 use mathlib.Core.Bool.{true}
@@ -16,7 +16,7 @@ use Rattle.cyclic.specs.Remainder.{remainder}
 use Rattle.cyclic.specs.Check.{gPadded, turned, turnOf, divisible}
 use Rattle.cyclic.proofs.Laws.{Facts, longFacts, shortFacts, zeros, turned-reads, turn-never, turnOf-at, thrice}
 use Rattle.cyclic.proofs.Same.{equal-same}
-use Rattle.reader.specs.Reads.{seamAgrees}
+use Rattle.reader.specs.Reads.{endsAgree}
 
 -- the remainder 0 is that of no turn
 pub zero-no-turn : (F : Numbers) → Facts F → turnOf F (zeros 10) ≡ Nothing
@@ -43,9 +43,9 @@ module _ (x : List ℕ) (t : ℕ) (bits : T (allBits x)) (size : length x ≡ 34
       let whole : around 341 t x ≡ turned t x = ap (λ (k : ℕ). around k t x) (sym size) ∙ around-turned t x (omega arith) in
       ap (remainder (gOf short)) whole ∙ turned-reads short shortFacts t x bits below size code .0
 
-  -- the seam agrees
-  pub rounds-agree : seamAgrees long (around 1100 t x) ≡ true
-  unfolding seamAgrees
+  -- the ends agree
+  pub rounds-agree : endsAgree long (around 1100 t x) ≡ true
+  unfolding endsAgree
   rounds-agree =
       let w = around 1100 t x in
       let thrice-round : t + 1023 ≡ t + 3 * length x = omega arith in

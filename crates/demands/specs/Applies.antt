@@ -1,7 +1,6 @@
--- When each refusal applies to a block to be encoded and to a window to be read (document 01, "When the bench says no", line by line), and
--- when it is the lowest that does.
+-- When each refusal applies to a block to be encoded and to a window to be read (document 01, "When the bench says no", line by line).
 -- Assumes nothing.
-use Prim.Native.Nat.{ℕ, _≤_, _<_}
+use Prim.Native.Nat.{ℕ, _<_}
 use mathlib.Core.Path.{_≡_}
 use mathlib.Core.List.{List}
 use lib.Dec.{T}
@@ -9,20 +8,14 @@ use lib.ListN.{length, take, drop}
 use Rattle.bits.specs.Bits.{allBits}
 use Rattle.formats.specs.declared.format.Format.{Format}
 use Rattle.formats.specs.declared.refusal.Refusal.{Refusal}
-use Rattle.formats.specs.declared.refusal.Refusal.the-variants.{Length, NotBit, OutputShort, NoPair, Seam, NotDivisible, NoTurn, Control, NotWord, OffStep, Repeating, Thinned, NoPlace}
+use Rattle.formats.specs.declared.refusal.Refusal.the-variants.{Length, NotBit, OutputShort, NoPair, EndsDiffer, NotDivisible, NoTurn, Control, NotWord, OffStep, Repeating, Thinned, NoPlace}
 use Rattle.formats.specs.Numbers.{Numbers, numbersOf, windowBits, fOf}
-use Rattle.formats.specs.Refused.{refusalNumber}
 use Rattle.cyclic.specs.Remainder.{remainder}
 use Rattle.cyclic.specs.Check.{divisible, turnRemainder}
 use Rattle.telegrams.specs.Telegram.{control}
 use Rattle.telegrams.specs.Fields.{controlOf, allWords}
 use Rattle.reader.specs.Reads.{telegramIn}
 use Rattle.demands.specs.FirstPair.{NoneProper}
-
--- "The lowest number that applies is given": it applies, and no refusal with a lower number does
-pub record Lowest (Applies : Refusal → Type 0) (r : Refusal) : Type 0 where
-  pub applies : Applies r
-  pub lowest : (q : Refusal) → Applies q → refusalNumber r ≤ refusalNumber q
 
 -- ---- encode
 
@@ -37,7 +30,7 @@ EncodeApplies u out Length = (format : Format) → length u ≡ numbersOf format
 EncodeApplies u out NotBit = T (allBits u) → ⊥
 EncodeApplies u out OutputShort = BlockOf u (λ (format : Format). length out < numbersOf format .n)
 EncodeApplies u out (NoPair tried) = BlockOf u (λ (format : Format). NoneProper format u) × (tried ≡ 4194304)
-EncodeApplies u out Seam = ⊥
+EncodeApplies u out EndsDiffer = ⊥
 EncodeApplies u out NotDivisible = ⊥
 EncodeApplies u out NoTurn = ⊥
 EncodeApplies u out Control = ⊥
@@ -69,7 +62,7 @@ ReadApplies w out Length = (format : Format) → length w ≡ windowBits (number
 ReadApplies w out NotBit = T (allBits w) → ⊥
 ReadApplies w out OutputShort = WindowOf w (λ (F : Numbers). length out < F .m)
 ReadApplies w out (NoPair tried) = ⊥
-ReadApplies w out Seam = WindowOf w (λ (F : Numbers). drop (F .n) w ≡ take (F .r) w → ⊥)
+ReadApplies w out EndsDiffer = WindowOf w (λ (F : Numbers). drop (F .n) w ≡ take (F .r) w → ⊥)
 ReadApplies w out NotDivisible = WindowOf w (λ (F : Numbers). T (divisible F (take (F .n) w)) → ⊥)
 ReadApplies w out NoTurn = WindowOf w (λ (F : Numbers). (t : ℕ) → AtTurn F w t → ⊥)
 ReadApplies w out Control = WindowOf w (λ (F : Numbers). TelegramOf F w (λ (b : List ℕ). controlOf F b ≡ control → ⊥))

@@ -2,17 +2,14 @@
 -- Assumes nothing.
 use Prim.Native.Nat.{ℕ}
 use mathlib.Core.List.{List, [], _∷_, _++_}
-use lib.ListN.{take, replicate}
+use lib.ListN.{getD, take, replicate}
 use Rattle.bits.specs.Bits.{numberOf, bitsOf}
 use Rattle.formats.specs.Numbers.{long, short, blocks, fOf}
-use Rattle.formats.specs.Refused.{refusalNumber}
 use Rattle.words.specs.Words.{wordOf}
 use Rattle.scrambling.specs.Scrambling.{seedOf, scrambled}
 use Rattle.scrambling.specs.Sum.{withSum, withoutSum}
 use Rattle.cyclic.specs.Remainder.{remainder}
-use Rattle.reader.specs.declared.ReadAnswer.{ReadAnswer}
-use Rattle.reader.specs.declared.ReadAnswer.the-variants.{Read, Refused}
-use Rattle.reader.specs.Reads.{readOf}
+use Rattle.reader.specs.Reads.{readValues, readOf}
 
 -- the number of the first ten bits
 abbrev pub firstTen : List ℕ → ℕ
@@ -26,14 +23,9 @@ sumBlock = bitsOf 10 1000 ++ (replicate 190 0 ++ bitsOf 10 100)
 abbrev pub tenth : List ℕ
 tenth = 1 ∷ replicate 10 0
 
--- the refusal's number, 0 for a reading
-abbrev pub answerNumber : ReadAnswer → ℕ
-answerNumber (Read reading) = 0
-answerNumber (Refused refusal) = refusalNumber refusal
-
--- the refusal with which reading a window answers, lent room for the short format
+-- the number with which reading a window answers, lent room for the short format
 unfoldable pub refusedRead : List ℕ → ℕ
-refusedRead w = answerNumber (readOf w (replicate 210 0) .answer)
+refusedRead w = getD (readValues (readOf w (replicate 210 0) .answer)) 0 0
 
 unfoldable pub answers : List ℕ
 answers =

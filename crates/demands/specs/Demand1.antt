@@ -10,12 +10,13 @@ use lib.ListN.{length, drop}
 use Rattle.formats.specs.declared.format.Format.{Format}
 use Rattle.formats.specs.declared.refusal.Refusal.{Refusal}
 use Rattle.formats.specs.Numbers.{numbersOf}
+use Rattle.formats.specs.Refused.{Lowest}
 use Rattle.encoder.specs.declared.Encoded.the-variants.{Pair, Refused as NotEncoded}
 use Rattle.encoder.specs.Encoding.{encodeOf}
 use Rattle.reader.specs.declared.Reading.{Reading}
 use Rattle.reader.specs.declared.ReadAnswer.the-variants.{Read, Refused as NotRead}
 use Rattle.reader.specs.Reads.{readOf}
-use Rattle.demands.specs.Applies.{Lowest, EncodeApplies, ReadApplies}
+use Rattle.demands.specs.Applies.{EncodeApplies, ReadApplies}
 
 -- of an output only the first k bytes, which it has, are written over
 pub record FrontWritten (k : ℕ) (before after : List ℕ) : Type 0 where

@@ -10,7 +10,7 @@ use lib.ListN.{length, take}
 use Rattle.bits.specs.Bits.{allBits}
 use Rattle.formats.specs.declared.format.Format.{Format}
 use Rattle.formats.specs.declared.format.Format.the-variants.{Long, Short}
-use Rattle.formats.specs.declared.refusal.Refusal.the-variants.{OutputShort, Seam, NoTurn}
+use Rattle.formats.specs.declared.refusal.Refusal.the-variants.{OutputShort, EndsDiffer, NoTurn}
 use Rattle.formats.specs.Numbers.{numbersOf, windowBits}
 use Rattle.conditions.specs.Conditions.{differences}
 use Rattle.encoder.specs.declared.Encoded.the-variants.{Pair}
@@ -38,7 +38,7 @@ pub record Wrote (format : Format) (u : List ℕ) (B esb : ℕ) (b : List ℕ) :
   pub answered : encodeOf u lent .answer ≡ Pair format B esb (1024 * B + esb + 1)
   pub wrote : b ≡ take (numbersOf format .n) (encodeOf u lent .output)
 
--- the demand; refusals 3, 5 and 7 are `OutputShort`, `Seam` and `NoTurn`
+-- the demand; refusals 3, 5 and 7 are `OutputShort`, `EndsDiffer` and `NoTurn`
 pub record Demand3 : Type 0 where
   -- lent room, encode answers with the first such pair, B and esb, and writes that pair's telegram
   pub encodes : (format : Format) (u out : List ℕ) → SomeProper format u → numbersOf format .n ≤ length out
@@ -58,7 +58,7 @@ pub record Demand3 : Type 0 where
   pub shortFromLong : (u : List ℕ) (B esb : ℕ) (b : List ℕ) → Wrote Long u B esb b → (t : ℕ) → t < 1023 → (flipped : Bool)
       → (w : List ℕ) → T (allBits w) → length w ≡ 462 → differences (cut 462 t flipped b) w ≤ 14
       → (out : List ℕ)
-      → (length out < 210 → readOf w out ≡ refusedWith OutputShort out) × (210 ≤ length out → readOf w out ≡ refusedWith Seam out)
+      → (length out < 210 → readOf w out ≡ refusedWith OutputShort out) × (210 ≤ length out → readOf w out ≡ refusedWith EndsDiffer out)
   -- L = 1100 from a short telegram, undamaged: read refuses, with 3 if the output is too short, otherwise with 7
   pub longFromShort : (u : List ℕ) (B esb : ℕ) (b : List ℕ) → Wrote Short u B esb b → (t : ℕ) → t < 341 → (flipped : Bool)
       → (out : List ℕ)

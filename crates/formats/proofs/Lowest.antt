@@ -8,7 +8,7 @@ use native.Mathlib.Omega.{arith}
 use lib.Dec.{T, lit≤}
 use lib.ListN.{getD}
 use Rattle.formats.specs.declared.refusal.Refusal.{Refusal}
-use Rattle.formats.specs.declared.refusal.Refusal.the-variants.{Length, NotBit, OutputShort, NoPair, Seam, NotDivisible, NoTurn, Control, NotWord, OffStep, Repeating, Thinned, NoPlace}
+use Rattle.formats.specs.declared.refusal.Refusal.the-variants.{Length, NotBit, OutputShort, NoPair, EndsDiffer, NotDivisible, NoTurn, Control, NotWord, OffStep, Repeating, Thinned, NoPlace}
 use Rattle.formats.specs.Refused.{refusalNumber}
 use Rattle.formats.specs.Outcome.{orRefuse}
 
@@ -17,7 +17,7 @@ use Rattle.formats.specs.Outcome.{orRefuse}
 -- refusal 4 with the count of all pairs; none has the number 0
 abbrev numbered : List Refusal
 numbered =
-    NoPlace ∷ Length ∷ NotBit ∷ OutputShort ∷ NoPair 4194304 ∷ Seam ∷ NotDivisible ∷ NoTurn ∷ Control ∷ NotWord ∷ OffStep ∷ Repeating ∷ Thinned ∷ NoPlace ∷ []
+    NoPlace ∷ Length ∷ NotBit ∷ OutputShort ∷ NoPair 4194304 ∷ EndsDiffer ∷ NotDivisible ∷ NoTurn ∷ Control ∷ NotWord ∷ OffStep ∷ Repeating ∷ Thinned ∷ NoPlace ∷ []
 
 abbrev pub refusalAt : ℕ → Refusal
 refusalAt k = getD numbered k NoPlace
@@ -28,7 +28,7 @@ one-up Length = lit≤ tt
 one-up NotBit = lit≤ tt
 one-up OutputShort = lit≤ tt
 one-up (NoPair tried) = lit≤ tt
-one-up Seam = lit≤ tt
+one-up EndsDiffer = lit≤ tt
 one-up NotDivisible = lit≤ tt
 one-up NoTurn = lit≤ tt
 one-up Control = lit≤ tt
@@ -50,7 +50,7 @@ module _ (Applies : Refusal → Type 0) (count : (tried : ℕ) → Applies (NoPa
   named NotBit a = refl
   named OutputShort a = refl
   named (NoPair tried) a = ap NoPair (sym (count tried a))
-  named Seam a = refl
+  named EndsDiffer a = refl
   named NotDivisible a = refl
   named NoTurn a = refl
   named Control a = refl

@@ -9,7 +9,7 @@ use Rattle.bits.specs.Bits.{allBits}
 use Rattle.bits.proofs.Tests.{clash}
 use Rattle.formats.specs.declared.format.Format.{Format}
 use Rattle.formats.specs.declared.refusal.Refusal.{Refusal}
-use Rattle.formats.specs.declared.refusal.Refusal.the-variants.{NotBit, OutputShort, Seam, NotDivisible, Control, NotWord}
+use Rattle.formats.specs.declared.refusal.Refusal.the-variants.{NotBit, OutputShort, EndsDiffer, NotDivisible, Control, NotWord}
 use Rattle.formats.specs.Numbers.{numbersOf, fOf}
 use Rattle.formats.specs.Outcome.{Outcome, outcome, orRefuse}
 use Rattle.cyclic.specs.declared.Turn.{Turn}
@@ -21,7 +21,7 @@ use Rattle.telegrams.specs.Fields.{controlOf, allWords, userBitsOf}
 use Rattle.reader.specs.declared.Reading.{Reading}
 use Rattle.reader.specs.declared.ReadAnswer.{ReadAnswer}
 use Rattle.reader.specs.declared.ReadAnswer.the-variants.{Read, Refused}
-use Rattle.reader.specs.Reads.{seamAgrees, isFlipped, turnedBack, telegramIn, readingOf, readTelegram, readTurn, readAs}
+use Rattle.reader.specs.Reads.{endsAgree, isFlipped, turnedBack, telegramIn, readingOf, readTelegram, readTurn, readAs}
 
 -- a refusal is no reading
 refused-read : {x : Refusal} {reading : Reading} {out o : List ℕ} → outcome (Refused x) out ≡ outcome (Read reading) o → ⊥
@@ -40,7 +40,7 @@ pub record Passed (format : Format) (w out : List ℕ) (reading : Reading) (o : 
   pub t : ℕ
   pub bits : allBits w ≡ true
   pub room : leb (numbersOf format .m) (length out) ≡ true
-  pub seam : seamAgrees (numbersOf format) w ≡ true
+  pub agrees : endsAgree (numbersOf format) w ≡ true
   pub divided : divisible (numbersOf format) (take (numbersOf format .n) w) ≡ true
   pub turn : turnOf (numbersOf format) (remainder (fOf (numbersOf format)) (take (numbersOf format .n) w)) ≡ At t
   pub controlled : same (controlOf (numbersOf format) (telegramIn (numbersOf format) t w)) control ≡ true
@@ -72,26 +72,26 @@ accepted-passed format w out reading o e =
     let found = turnOf F (remainder (fOf F) v) in
     let last : Outcome ReadAnswer = readTurn format found w out in
     let by-g : Outcome ReadAnswer = orRefuse (divisible F v) (outcome (Refused NotDivisible) out) last in
-    let by-seam : Outcome ReadAnswer = orRefuse (seamAgrees F w) (outcome (Refused Seam) out) by-g in
-    let by-room : Outcome ReadAnswer = orRefuse (leb (F .m) (length out)) (outcome (Refused OutputShort) out) by-seam in
+    let by-ends : Outcome ReadAnswer = orRefuse (endsAgree F w) (outcome (Refused EndsDiffer) out) by-g in
+    let by-room : Outcome ReadAnswer = orRefuse (leb (F .m) (length out)) (outcome (Refused OutputShort) out) by-ends in
     let first = passed (allBits w) NotBit out by-room e in
-    let second = passed (leb (F .m) (length out)) OutputShort out by-seam (first .1) in
-    let third = passed (seamAgrees F w) Seam out by-g (second .1) in
+    let second = passed (leb (F .m) (length out)) OutputShort out by-ends (first .1) in
+    let third = passed (endsAgree F w) EndsDiffer out by-g (second .1) in
     let fourth = passed (divisible F v) NotDivisible out last (third .1) in
     go found refl (first .0) (second .0) (third .0) (fourth .0) (fourth .1)
   where
     go : (found : Turn) → turnOf (numbersOf format) (remainder (fOf (numbersOf format)) (take (numbersOf format .n) w)) ≡ found
-        → allBits w ≡ true → leb (numbersOf format .m) (length out) ≡ true → seamAgrees (numbersOf format) w ≡ true
+        → allBits w ≡ true → leb (numbersOf format .m) (length out) ≡ true → endsAgree (numbersOf format) w ≡ true
         → divisible (numbersOf format) (take (numbersOf format .n) w) ≡ true
         → readTurn format found w out ≡ outcome (Read reading) o → Passed format w out reading o
-    go (At t) f bits room seam divided e =
+    go (At t) f bits room agrees divided e =
         let F = numbersOf format in
         let p = telegram-passed format t (isFlipped F (turnedBack F t w)) (telegramIn F t w) out reading o e in
         record {
           t = t;
           bits = bits;
           room = room;
-          seam = seam;
+          agrees = agrees;
           divided = divided;
           turn = f;
           controlled = p .0;
@@ -99,4 +99,4 @@ accepted-passed format w out reading o e =
           reads = p .2;
           writes = p .3;
         }
-    go NoneFits f bits room seam divided e = absurd (refused-read e)
+    go NoneFits f bits room agrees divided e = absurd (refused-read e)

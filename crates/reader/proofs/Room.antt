@@ -16,7 +16,7 @@ use Rattle.cyclic.specs.Check.{same, turnOf, divisible}
 use Rattle.telegrams.specs.Telegram.{control}
 use Rattle.telegrams.specs.Fields.{controlOf, allWords}
 use Rattle.reader.specs.declared.ReadAnswer.{ReadAnswer}
-use Rattle.reader.specs.Reads.{seamAgrees, isFlipped, turnedBack, telegramIn, readTelegram, readTurn, readAs, readOf}
+use Rattle.reader.specs.Reads.{endsAgree, isFlipped, turnedBack, telegramIn, readTelegram, readTurn, readAs, readOf}
 use Rattle.reader.proofs.Steps.{length-fits, fits-window}
 
 -- the answer of an outcome
@@ -48,7 +48,7 @@ module _ (format : Format) (w out out′ : List ℕ) where
       let F = numbersOf format in
       rw (le-leb (F .m) (length out) room, le-leb (F .m) (length out′) room′)
       (past (allBits w) _ out out′ _ _
-      (past (seamAgrees F w) _ out out′ _ _
+      (past (endsAgree F w) _ out out′ _ _
       (past (divisible F (take (F .n) w)) _ out out′ _ _ (turn-room (turnOf F (remainder (fOf F) (take (F .n) w)))))))
 
   -- a window of the format's length

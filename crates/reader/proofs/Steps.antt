@@ -10,7 +10,7 @@ use Rattle.bits.specs.Bits.{allBits}
 use Rattle.formats.specs.declared.format.Format.{Format}
 use Rattle.formats.specs.declared.format.Fit.{Fit}
 use Rattle.formats.specs.declared.format.Fit.the-variants.{As, Nothing}
-use Rattle.formats.specs.declared.refusal.Refusal.the-variants.{Length, NotBit, OutputShort, Seam, NotDivisible, NoTurn, Control, NotWord}
+use Rattle.formats.specs.declared.refusal.Refusal.the-variants.{Length, NotBit, OutputShort, EndsDiffer, NotDivisible, NoTurn, Control, NotWord}
 use Rattle.formats.specs.Numbers.{long, short, numbersOf, windowBits, fitOf, fOf}
 use Rattle.formats.specs.Outcome.{outcome}
 use Rattle.formats.proofs.Fits
@@ -21,7 +21,7 @@ use Rattle.cyclic.specs.Check.{same, turnOf, divisible}
 use Rattle.telegrams.specs.Telegram.{control}
 use Rattle.telegrams.specs.Fields.{controlOf, allWords, userBitsOf}
 use Rattle.reader.specs.declared.ReadAnswer.the-variants.{Read, Refused}
-use Rattle.reader.specs.Reads.{seamAgrees, isFlipped, turnedBack, telegramIn, readingOf, readTelegram, readTurn, readAs, readFit, readOf}
+use Rattle.reader.specs.Reads.{endsAgree, isFlipped, turnedBack, telegramIn, readingOf, readTelegram, readTurn, readAs, readFit, readOf}
 
 -- the length fits no format
 pub length-refused : (w out : List ℕ) → fitOf (windowBits long) (windowBits short) (length w) ≡ Nothing
@@ -60,30 +60,30 @@ module _ (format : Format) (w out : List ℕ) where
 -- bits and room
 module _ (format : Format) (w out : List ℕ) (bits : allBits w ≡ true) (room : numbersOf format .m ≤ length out) where
   -- the last r bits differ from the first r
-  pub seam-refused : seamAgrees (numbersOf format) w ≡ false → readAs format w out ≡ outcome (Refused Seam) out
+  pub ends-refused : endsAgree (numbersOf format) w ≡ false → readAs format w out ≡ outcome (Refused EndsDiffer) out
   unfolding readAs
-  seam-refused s = rw (bits, le-leb (numbersOf format .m) (length out) room, s)
+  ends-refused s = rw (bits, le-leb (numbersOf format .m) (length out) room, s)
 
   -- not divisible by g
-  pub divisible-refused : seamAgrees (numbersOf format) w ≡ true → divisible (numbersOf format) (take (numbersOf format .n) w) ≡ false
+  pub divisible-refused : endsAgree (numbersOf format) w ≡ true → divisible (numbersOf format) (take (numbersOf format .n) w) ≡ false
       → readAs format w out ≡ outcome (Refused NotDivisible) out
   unfolding readAs
   divisible-refused s d = rw (bits, le-leb (numbersOf format .m) (length out) room, s, d)
 
   -- past these the remainder by f decides
-  pub turn-decides : seamAgrees (numbersOf format) w ≡ true → divisible (numbersOf format) (take (numbersOf format .n) w) ≡ true
+  pub turn-decides : endsAgree (numbersOf format) w ≡ true → divisible (numbersOf format) (take (numbersOf format .n) w) ≡ true
       → readAs format w out ≡ readTurn format (turnOf (numbersOf format) (remainder (fOf (numbersOf format)) (take (numbersOf format .n) w))) w out
   unfolding readAs
   turn-decides s d = rw (bits, le-leb (numbersOf format .m) (length out) room, s, d)
 
   -- the remainder by f is that of no turn
-  pub turn-refused : seamAgrees (numbersOf format) w ≡ true → divisible (numbersOf format) (take (numbersOf format .n) w) ≡ true
+  pub turn-refused : endsAgree (numbersOf format) w ≡ true → divisible (numbersOf format) (take (numbersOf format .n) w) ≡ true
       → turnOf (numbersOf format) (remainder (fOf (numbersOf format)) (take (numbersOf format .n) w)) ≡ NoneFits
       → readAs format w out ≡ outcome (Refused NoTurn) out
   turn-refused s d e = turn-decides s d ∙ ap (λ (x : Turn). readTurn format x w out) e
 
   -- it is that of the turn t: the telegram turned back decides
-  pub turn-found : seamAgrees (numbersOf format) w ≡ true → divisible (numbersOf format) (take (numbersOf format .n) w) ≡ true
+  pub turn-found : endsAgree (numbersOf format) w ≡ true → divisible (numbersOf format) (take (numbersOf format .n) w) ≡ true
       → (t : ℕ) → turnOf (numbersOf format) (remainder (fOf (numbersOf format)) (take (numbersOf format .n) w)) ≡ At t
       → readAs format w out
       ≡ readTelegram format t (isFlipped (numbersOf format) (turnedBack (numbersOf format) t w)) (telegramIn (numbersOf format) t w) out

@@ -1,4 +1,4 @@
--- Windows: the bits of one, its front and its seam, and that what repeats at the seam is a window. Assumes nothing.
+-- Windows: the bits of one, its front and its end, and that what ends with a repeat of its beginning is a window. Assumes nothing.
 use mathlib.Core.Path.{_≡_, refl, sym, ap, ap₂, _∙_}
 use mathlib.Core.Bool.{Bool, true, false}
 use mathlib.Core.List.{List, _++_}
@@ -50,8 +50,8 @@ module _ (n r t : ℕ) (b : List ℕ) (size : length b ≡ n) where
   ring-front h = take-around n r t b ∙ ap (λ (x : ℕ). around x t b) (sym size) ∙ around-turned t b (omega arith)
 
   -- its last r bits repeat the first r
-  pub ring-seam : drop n (around (n + r) t b) ≡ take r (around (n + r) t b)
-  ring-seam =
+  pub ring-ends : drop n (around (n + r) t b) ≡ take r (around (n + r) t b)
+  ring-ends =
       drop-around n r t b ∙ ap (λ (x : ℕ). around r (t + x) b) (sym size) ∙ around-period r t b
       ∙ sym (ap (λ (x : ℕ). take r (around x t b)) (add-comm n r) ∙ take-around r n t b)
 
@@ -59,7 +59,7 @@ module _ (n r t : ℕ) (b : List ℕ) (size : length b ≡ n) where
 pub window-of : (n r t : ℕ) (w : List ℕ) → r ≤ n → t ≤ n → length w ≡ n + r → drop n w ≡ take r w
     → around (n + r) t (turned (n - t) (take n w)) ≡ w
 unfolding turned
-window-of n r t w within below size seam =
+window-of n r t w within below size agree =
     let v = take n w in
     let b = turned (n - t) v in
     let all : length v ≡ n = length-take-le n w (omega arith) in
@@ -67,5 +67,5 @@ window-of n r t w within below size seam =
     let round : t + (n - t) ≡ length v = omega arith in
     let front : take n (around (n + r) t b) ≡ v = ring-front n r t b ring below ∙ turned-back t (n - t) v round in
     let back : drop n (around (n + r) t b) ≡ drop n w =
-    ring-seam n r t b ring ∙ sym (take-take r n (around (n + r) t b) within) ∙ ap (take r) front ∙ take-take r n w within ∙ sym seam in
+    ring-ends n r t b ring ∙ sym (take-take r n (around (n + r) t b) within) ∙ ap (take r) front ∙ take-take r n w within ∙ sym agree in
     sym (take-append-drop n (around (n + r) t b)) ∙ ap₂ _++_ front back ∙ take-append-drop n w

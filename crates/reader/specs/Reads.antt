@@ -10,7 +10,7 @@ use Rattle.bits.specs.Bits.{allBits}
 use Rattle.formats.specs.declared.format.Format.{Format}
 use Rattle.formats.specs.declared.format.Fit.{Fit}
 use Rattle.formats.specs.declared.format.Fit.the-variants.{As, Nothing}
-use Rattle.formats.specs.declared.refusal.Refusal.the-variants.{Length, NotBit, OutputShort, Seam, NotDivisible, NoTurn, Control, NotWord}
+use Rattle.formats.specs.declared.refusal.Refusal.the-variants.{Length, NotBit, OutputShort, EndsDiffer, NotDivisible, NoTurn, Control, NotWord}
 use Rattle.formats.specs.Numbers.{Numbers, long, short, numbersOf, windowBits, fitOf, fOf}
 use Rattle.cyclic.specs.declared.Turn.{Turn}
 use Rattle.cyclic.specs.declared.Turn.the-variants.{At, Nothing as NoneFits}
@@ -35,8 +35,8 @@ readValues (Read reading) = 0 ∷ readingValues reading
 readValues (Refused refusal) = refusalValues refusal
 
 -- the last r bits repeat the first r
-unfoldable pub seamAgrees : Numbers → List ℕ → Bool
-seamAgrees F w = same (drop (F .n) w) (take (F .r) w)
+unfoldable pub endsAgree : Numbers → List ℕ → Bool
+endsAgree F w = same (drop (F .n) w) (take (F .r) w)
 
 -- b109 is 1
 unfoldable pub isFlipped : Numbers → List ℕ → Bool
@@ -73,7 +73,7 @@ unfoldable pub readAs : Format → List ℕ → List ℕ → Outcome ReadAnswer
 readAs format w out =
     orRefuse (allBits w) (outcome (Refused NotBit) out)
     (orRefuse (leb (numbersOf format .m) (length out)) (outcome (Refused OutputShort) out)
-    (orRefuse (seamAgrees (numbersOf format) w) (outcome (Refused Seam) out)
+    (orRefuse (endsAgree (numbersOf format) w) (outcome (Refused EndsDiffer) out)
     (orRefuse (divisible (numbersOf format) (take (numbersOf format .n) w)) (outcome (Refused NotDivisible) out)
     (readTurn format (turnOf (numbersOf format) (remainder (fOf (numbersOf format)) (take (numbersOf format .n) w))) w out))))
 

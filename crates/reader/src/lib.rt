@@ -5,7 +5,7 @@ ghost use lib.ListN.{length};
 ghost use Rattle.bits.specs.Bits.{allBits};
 ghost use Rattle.formats.specs.Numbers.{numbersOf, windowBits};
 ghost use Rattle.formats.specs.Outcome.{outcome};
-ghost use Rattle.reader.specs.Reads.{seamAgrees, readAs, readOf, readValues};
+ghost use Rattle.reader.specs.Reads.{endsAgree, readAs, readOf, readValues};
 use cyclic::Turn;
 use cyclic::divisors;
 use cyclic::remainder;
@@ -37,9 +37,9 @@ pub enum ReadAnswer {
 }
 
 // Whether the window's last r bits repeat its first. Where they do not, the first bit that differs ends the test.
-pub fn seam_agrees(format: Format, window: &[u8]) -> bool
+pub fn ends_agree(format: Format, window: &[u8]) -> bool
     requires { ⌜ length (now window) ≡ windowBits (numbersOf format) ⌝ }
-    ensures { λ r. ⌜ r ≡ seamAgrees (numbersOf format) (now (window .entry)) ⌝ }
+    ensures { λ r. ⌜ r ≡ endsAgree (numbersOf format) (now (window .entry)) ⌝ }
 {
     let n = format::telegram_bits(format);
     let r = format::extra_bits(format);
@@ -55,8 +55,8 @@ pub fn read_bits(format: Format, window: &[u8], output: &mut [u8]) -> ReadAnswer
     if output.len() < format::user_bits(format) {
         return ReadAnswer::Refused(Refusal::OutputShort);
     }
-    if !seam_agrees(format, window) {
-        return ReadAnswer::Refused(Refusal::Seam);
+    if !ends_agree(format, window) {
+        return ReadAnswer::Refused(Refusal::EndsDiffer);
     }
     let n = format::telegram_bits(format);
     if !divisors::divisible(format, &window[..n]) {

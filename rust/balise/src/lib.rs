@@ -172,7 +172,7 @@ pub fn search(capture: &[u8]) -> Result<Found, Refused> {
     match fields.number() {
         0 => {
             let reading = fields.reading();
-            let place = fields.take(32) as usize;
+            let place = fields.take(16) as usize;
             Ok(Found { place, reading })
         }
         number => Err(Refused { number, count: 0 }),

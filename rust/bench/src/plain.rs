@@ -156,7 +156,7 @@ fn read_as<const F: u128, const G: u128>(
         .ok_or(refusal::OUTPUT)?;
     let (turned, extra) = window.split_at(format.telegram_bits());
     if extra != &turned[..format.extra_bits()] {
-        return Err(refusal::SEAM);
+        return Err(refusal::ENDS);
     }
     if remainder::<G>(turned) != 0 {
         return Err(refusal::PARITY);

@@ -4,7 +4,7 @@ use crate::answer;
 use second::appendices::{appendix_b, Row};
 use second::bits::{bits_of, number_of, pack};
 use second::check;
-use second::conditions::{off_step, Seam};
+use second::conditions::{off_step, Course};
 use second::encode::{first_pair, Pair};
 use second::read::{scrambled_bits_of, user_bits_of};
 use second::scrambling::{descramble, restore_first, scramble_by_top_bit};
@@ -24,7 +24,7 @@ pub fn lines() -> Vec<String> {
             check(&t.row.telegram_bits()) == Ok(t.row.format())
         }),
         which("condition 2 also round the ring", &rows, |t| {
-            off_step(&t.row.telegram_bits(), t.row.format(), Seam::Ring)
+            off_step(&t.row.telegram_bits(), t.row.format(), Course::Ring)
         }),
         which("printed block too short by some bytes", &rows, |t| {
             t.row.missing_bytes() > 0
@@ -81,8 +81,8 @@ impl Tried {
     fn of(row: Row) -> Tried {
         let format = row.format();
         let user = user_bits_of(&row.telegram_bits(), format).expect("words of the table");
-        let strip = first_pair(&user, format, Seam::Strip).expect("a pair");
-        let ring = first_pair(&user, format, Seam::Ring).expect("a pair");
+        let strip = first_pair(&user, format, Course::Strip).expect("a pair");
+        let ring = first_pair(&user, format, Course::Ring).expect("a pair");
         Tried {
             row,
             user,

@@ -2,7 +2,7 @@
 
 use crate::answer;
 use second::appendices::block_without_a_pair;
-use second::conditions::Seam;
+use second::conditions::Course;
 use second::encode::{encode_skipping, first_pair_skipping};
 use second::format::{Format, FORMATS};
 use second::random::Random;
@@ -19,7 +19,7 @@ pub fn lines() -> Vec<String> {
         .min();
     let block = block_without_a_pair();
     let refused = encode_skipping(&block, &mut [0; Format::Long.telegram_bits()]).err();
-    let ring = first_pair_skipping(&block, Format::Long, Seam::Ring);
+    let ring = first_pair_skipping(&block, Format::Long, Course::Ring);
     let mut lines = vec![
         format!(
             "values of B whose words can be in the table: {}, the first {}",

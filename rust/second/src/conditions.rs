@@ -7,10 +7,10 @@ use crate::words::{self, valid, WORD_BITS};
 
 /// How condition 2 counts its runs.
 #[derive(Clone, Copy, Debug, PartialEq, Eq)]
-pub enum Seam {
+pub enum Course {
     /// On the straight strip that ends at b0, as document 01 says.
     Strip,
-    /// Round the ring of n/11 words, as change request 5 will have it.
+    /// Round the ring of n/11 words, as document 02, No. 5, will have it.
     Ring,
 }
 
@@ -49,21 +49,21 @@ fn longest_run_round(valid: &[bool]) -> usize {
 
 /// The longest run of valid words cut from b(n-1-p) on. On the strip, a part
 /// of a telegram from its left end may stand for the telegram.
-pub fn off_step_run(telegram: &[u8], p: usize, seam: Seam) -> usize {
-    match seam {
-        Seam::Strip => longest_run(&validity(&telegram[p..])),
-        Seam::Ring => longest_run_round(&validity(&[&telegram[p..], &telegram[..p]].concat())),
+pub fn off_step_run(telegram: &[u8], p: usize, course: Course) -> usize {
+    match course {
+        Course::Strip => longest_run(&validity(&telegram[p..])),
+        Course::Ring => longest_run_round(&validity(&[&telegram[p..], &telegram[..p]].concat())),
     }
 }
 
 /// Condition 2 with the runs counted either way.
-pub fn off_step(telegram: &[u8], format: Format, seam: Seam) -> bool {
-    (1..=10).all(|p| off_step_run(telegram, p, seam) <= off_step_limit(p, format))
+pub fn off_step(telegram: &[u8], format: Format, course: Course) -> bool {
+    (1..=10).all(|p| off_step_run(telegram, p, course) <= off_step_limit(p, format))
 }
 
 /// Condition 2, on the straight strip.
 pub fn condition_2(telegram: &[u8], format: Format) -> bool {
-    off_step(telegram, format, Seam::Strip)
+    off_step(telegram, format, Course::Strip)
 }
 
 /// The 22 bits b(i-1), b(i-2), .. of a telegram going round.

@@ -1,7 +1,7 @@
 //! Encoding a user block (document 01, "Search, reading and place").
 
 use crate::bits::all_bits;
-use crate::conditions::{condition_3, condition_4, off_step, Seam};
+use crate::conditions::{condition_3, condition_4, off_step, Course};
 use crate::format::Format;
 use crate::refusal;
 use crate::telegram::{all_words_valid, complete, shaped_data, B_VALUES, CONTROL, ESB_VALUES};
@@ -37,18 +37,18 @@ pub struct Pair {
 /// Is a telegram, as `complete` makes it, proper? Its shaped words are entries
 /// and its control and check bits right, so the last ten words are left of
 /// condition 1.
-fn proper(telegram: &[u8], format: Format, seam: Seam) -> bool {
+fn proper(telegram: &[u8], format: Format, course: Course) -> bool {
     all_words_valid(&telegram[format.shaped_bits()..])
-        && off_step(telegram, format, seam)
+        && off_step(telegram, format, course)
         && condition_3(telegram, format)
         && condition_4(telegram)
 }
 
 /// The first proper pair with this B.
-fn first_esb(shaped: &[u8], b: u16, format: Format, seam: Seam) -> Option<Pair> {
+fn first_esb(shaped: &[u8], b: u16, format: Format, course: Course) -> Option<Pair> {
     for esb in 0..ESB_VALUES {
         let telegram = complete(shaped, b, esb, format);
-        if proper(&telegram, format, seam) {
+        if proper(&telegram, format, course) {
             return Some(Pair { b, esb, telegram });
         }
     }
@@ -56,14 +56,14 @@ fn first_esb(shaped: &[u8], b: u16, format: Format, seam: Seam) -> Option<Pair> 
 }
 
 /// The first proper pair: each one formed and tested in the listed order.
-pub fn first_pair(user: &[u8], format: Format, seam: Seam) -> Option<Pair> {
-    (0..B_VALUES).find_map(|b| first_esb(&shaped_data(user, b), b, format, seam))
+pub fn first_pair(user: &[u8], format: Format, course: Course) -> Option<Pair> {
+    (0..B_VALUES).find_map(|b| first_esb(&shaped_data(user, b), b, format, course))
 }
 
 /// The same pair, found by dropping a B whose own word is not in the table or
 /// whose shaped data alone breaks condition 2. A run within the shaped data is
 /// one on the strip and on the ring.
-pub fn first_pair_skipping(user: &[u8], format: Format, seam: Seam) -> Option<Pair> {
+pub fn first_pair_skipping(user: &[u8], format: Format, course: Course) -> Option<Pair> {
     (0..B_VALUES)
         .filter(|&b| {
             let front = [&CONTROL[..], &bits_of((b >> 4).into(), 8)].concat();
@@ -71,8 +71,8 @@ pub fn first_pair_skipping(user: &[u8], format: Format, seam: Seam) -> Option<Pa
         })
         .find_map(|b| {
             let shaped = shaped_data(user, b);
-            if off_step(&shaped, format, Seam::Strip) {
-                first_esb(&shaped, b, format, seam)
+            if off_step(&shaped, format, Course::Strip) {
+                first_esb(&shaped, b, format, course)
             } else {
                 None
             }
@@ -83,7 +83,7 @@ pub fn first_pair_skipping(user: &[u8], format: Format, seam: Seam) -> Option<Pa
 fn answer(
     input: &[u8],
     output: &mut [u8],
-    search: fn(&[u8], Format, Seam) -> Option<Pair>,
+    search: fn(&[u8], Format, Course) -> Option<Pair>,
 ) -> Result<Encoded, Refused> {
     let refused = |number| Refused { number, count: 0 };
     let format = Format::of_block(input.len()).ok_or(refused(refusal::LENGTH))?;
@@ -93,7 +93,7 @@ fn answer(
     if output.len() < format.telegram_bits() {
         return Err(refused(refusal::OUTPUT));
     }
-    let pair = search(input, format, Seam::Strip).ok_or(Refused {
+    let pair = search(input, format, Course::Strip).ok_or(Refused {
         number: refusal::NO_PAIR,
         count: PAIRS,
     })?;

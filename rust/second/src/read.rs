@@ -36,7 +36,7 @@ pub fn read(window: &[u8], output: &mut [u8]) -> Result<Reading, u8> {
 pub fn read_bits(window: &[u8], format: Format) -> Result<(Reading, Vec<u8>), u8> {
     let (turned, extra) = window.split_at(format.telegram_bits());
     if extra != &window[..format.extra_bits()] {
-        return Err(refusal::SEAM);
+        return Err(refusal::ENDS);
     }
     if remainder_by_g(turned, format) != 0 {
         return Err(refusal::PARITY);

@@ -9,7 +9,7 @@ pub const OUTPUT: u8 = 3;
 /// No pair gives a proper telegram.
 pub const NO_PAIR: u8 = 4;
 /// The last r bits differ from the first r.
-pub const SEAM: u8 = 5;
+pub const ENDS: u8 = 5;
 /// Not divisible by g.
 pub const PARITY: u8 = 6;
 /// The remainder by f is that of no turn; in check, not that of turn 0.

@@ -32,7 +32,7 @@ fn with_run(random: &mut Random, format: Format, p: usize, first: usize, run: us
         let others = (1..=10).filter(|&q| q != p);
         if others
             .clone()
-            .all(|q| off_step_run(&bits, q, Seam::Ring) <= off_step_limit(q, format))
+            .all(|q| off_step_run(&bits, q, Course::Ring) <= off_step_limit(q, format))
         {
             return bits;
         }
@@ -61,19 +61,19 @@ fn off_step_runs() {
             for run in [limit, limit + 1] {
                 for first in [0, 1, on_strip / 2, on_strip - run] {
                     let bits = with_run(&mut random, format, p, first, run);
-                    assert_eq!(off_step_run(&bits, p, Seam::Strip), run);
-                    assert_eq!(off_step_run(&bits, p, Seam::Ring), run);
+                    assert_eq!(off_step_run(&bits, p, Course::Strip), run);
+                    assert_eq!(off_step_run(&bits, p, Course::Ring), run);
                     assert_eq!(condition_2(&bits, format), run <= limit);
-                    assert_eq!(off_step(&bits, format, Seam::Ring), run <= limit);
+                    assert_eq!(off_step(&bits, format, Course::Ring), run <= limit);
                 }
             }
         }
     }
 }
 
-/// The word across the seam counts on the ring and not on the strip.
+/// The word over the end counts on the ring and not on the strip.
 #[test]
-fn off_step_runs_across_the_seam() {
+fn off_step_runs_over_the_end() {
     let mut random = Random::new(11);
     for format in FORMATS {
         let on_strip = format.words() - 1;
@@ -82,12 +82,12 @@ fn off_step_runs_across_the_seam() {
             let (before, run) = (limit / 2, limit + 1);
             let bits = with_run(&mut random, format, p, on_strip - before, run);
             assert_eq!(
-                off_step_run(&bits, p, Seam::Strip),
+                off_step_run(&bits, p, Course::Strip),
                 before.max(run - before - 1)
             );
-            assert_eq!(off_step_run(&bits, p, Seam::Ring), run);
+            assert_eq!(off_step_run(&bits, p, Course::Ring), run);
             assert!(condition_2(&bits, format));
-            assert!(!off_step(&bits, format, Seam::Ring));
+            assert!(!off_step(&bits, format, Course::Ring));
         }
     }
 }
@@ -108,12 +108,12 @@ fn off_step_runs_apart() {
             let bits = with_stretch(n, 5, &two.concat());
             if [1, 2, 3, 4, 6, 7, 8, 9, 10]
                 .iter()
-                .all(|&q| off_step_run(&bits, q, Seam::Ring) <= off_step_limit(q, format))
+                .all(|&q| off_step_run(&bits, q, Course::Ring) <= off_step_limit(q, format))
             {
                 break bits;
             }
         };
-        assert_eq!(off_step_run(&bits, 5, Seam::Strip), limit);
+        assert_eq!(off_step_run(&bits, 5, Course::Strip), limit);
         assert!(condition_2(&bits, format));
     }
 }
@@ -126,8 +126,8 @@ fn off_step_all_valid() {
         let n = format.telegram_bits();
         for p in 1..=10 {
             let bits = with_stretch(n, p, &valid_words(&mut random, format.words()));
-            assert_eq!(off_step_run(&bits, p, Seam::Strip), format.words() - 1);
-            assert_eq!(off_step_run(&bits, p, Seam::Ring), format.words());
+            assert_eq!(off_step_run(&bits, p, Course::Strip), format.words() - 1);
+            assert_eq!(off_step_run(&bits, p, Course::Ring), format.words());
             assert!(!condition_2(&bits, format));
         }
     }

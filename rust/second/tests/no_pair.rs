@@ -1,7 +1,7 @@
 //! The long block without a pair: refusal 4, the output untouched.
 
 use second::appendices::block_without_a_pair;
-use second::conditions::Seam;
+use second::conditions::Course;
 use second::encode::{first_pair_skipping, PAIRS};
 use second::format::Format;
 use second::{encode, encode_skipping, Refused};
@@ -23,7 +23,10 @@ fn skipping() {
 #[test]
 fn round_the_ring() {
     let block = block_without_a_pair();
-    assert_eq!(first_pair_skipping(&block, Format::Long, Seam::Ring), None);
+    assert_eq!(
+        first_pair_skipping(&block, Format::Long, Course::Ring),
+        None
+    );
 }
 
 /// All 4,194,304 pairs, each formed and tested.

@@ -56,7 +56,7 @@ fn lengths_and_bytes() {
 }
 
 #[test]
-fn seam_and_parity() {
+fn ends_and_parity() {
     for format in FORMATS {
         let telegram = telegram_of(&vec![0; format.user_bits()]);
         let (n, r) = (format.telegram_bits(), format.extra_bits());

@@ -2,7 +2,7 @@
 
 use second::appendices::{appendix_b, Row};
 use second::bits::{number_of, pack};
-use second::conditions::{off_step, Seam};
+use second::conditions::{off_step, Course};
 use second::encode::first_pair_skipping;
 use second::read::{read_bits, scrambled_bits_of, user_bits_of};
 use second::scrambling::{restore_first, scramble_by_top_bit};
@@ -24,9 +24,9 @@ fn rows_where(test: impl Fn(&Row) -> bool) -> Vec<usize> {
 }
 
 /// Is the first pair of the decoded block the printed one?
-fn first_pair_is_printed(row: &Row, seam: Seam) -> bool {
+fn first_pair_is_printed(row: &Row, course: Course) -> bool {
     let printed = row.telegram_bits();
-    let pair = first_pair_skipping(&decoded(row), row.format(), seam).unwrap();
+    let pair = first_pair_skipping(&decoded(row), row.format(), course).unwrap();
     let same = pair.telegram == printed;
     let format = row.format();
     assert_eq!(
@@ -42,7 +42,7 @@ const ALL: [usize; 10] = [1, 2, 3, 4, 5, 6, 7, 8, 9, 10];
 fn telegrams_are_proper() {
     assert_eq!(rows_where(|row| check(&row.telegram_bits()).is_ok()), ALL);
     assert_eq!(
-        rows_where(|row| off_step(&row.telegram_bits(), row.format(), Seam::Ring)),
+        rows_where(|row| off_step(&row.telegram_bits(), row.format(), Course::Ring)),
         ALL
     );
     assert_eq!(
@@ -112,11 +112,11 @@ fn row_5_does_not_belong_together() {
 #[test]
 fn first_pairs() {
     assert_eq!(
-        rows_where(|row| first_pair_is_printed(row, Seam::Strip)),
+        rows_where(|row| first_pair_is_printed(row, Course::Strip)),
         [4, 6, 7, 9, 10]
     );
     assert_eq!(
-        rows_where(|row| first_pair_is_printed(row, Seam::Ring)),
+        rows_where(|row| first_pair_is_printed(row, Course::Ring)),
         ALL
     );
 }

@@ -1,4 +1,4 @@
--- `captures::attempt` meets its contract: the window does not fit, its seam differs, or what `read_bits` answers with an output of zeros.
+-- `captures::attempt` meets its contract: the window does not fit, its ends differ, or what `read_bits` answers with an output of zeros.
 -- Assumes nothing.
 use mathlib.Core.Path.{_≡_, sym, ap, _∙_, subst⁻¹}
 use mathlib.Core.Bool.{false}
@@ -13,9 +13,9 @@ use Rattle.bits.specs.Bits.{allBits}
 use Rattle.formats.specs.Numbers.{numbersOf, windowBits}
 use Rattle.formats.specs.Outcome.{Outcome}
 use Rattle.reader.specs.declared.ReadAnswer.{ReadAnswer}
-use Rattle.reader.specs.Reads.{seamAgrees, readAs}
+use Rattle.reader.specs.Reads.{endsAgree, readAs}
 use Rattle.captures.specs.Captures.{windowAt}
-use Rattle.captures.proofs.Attempts.{zeros, lent-window, window-bits, window-length, reads-by, seam-differs, attempt-fits, attempt-far}
+use Rattle.captures.proofs.Attempts.{zeros, lent-window, window-bits, window-length, reads-by, ends-differ, attempt-fits, attempt-far}
 use Rattle.captures.proofs.attempt.Statement.{statement}
 use Rattle.captures.proofs.attempt.Tie as tie
 
@@ -55,19 +55,19 @@ part-window-start c = search needs
 part-window-end : tie.Need-part-window-end
 part-window-end c = search needs
 
-seam-agrees-requires : tie.Need-seam-agrees-requires
-seam-agrees-requires c κs = search needs
+ends-agree-requires : tie.Need-ends-agree-requires
+ends-agree-requires c κs = search needs
 
 returns-2 : tie.Need-returns-2
 returns-2 c =
     let whole = c .before .before .before in
     let start = whole .before .before .before in
     let a = start .args in
-    let differs : seamAgrees (numbersOf (a .format)) (windowAt (a .format) (a .capture .now) (a .place)) ≡ false =
-    ap (seamAgrees (numbersOf (a .format))) (sym (part-is whole)) ∙ sym (c .before .seam-agrees .ensures) ∙ not-true _ (c .if2 .taken) in
+    let differs : endsAgree (numbersOf (a .format)) (windowAt (a .format) (a .capture .now) (a .place)) ≡ false =
+    ap (endsAgree (numbersOf (a .format))) (sym (part-is whole)) ∙ sym (c .before .ends-agree .ensures) ∙ not-true _ (c .if2 .taken) in
     sym
     (attempt-fits (a .format) (a .capture .now) (a .place) (fits whole)
-    ∙ seam-differs (a .format) (a .capture .now) (a .place) (fits whole) (start .pre .0) differs)
+    ∙ ends-differ (a .format) (a .capture .now) (a .place) (fits whole) (start .pre .0) differs)
 
 slice-aggregate-read-bits : tie.Need-slice-aggregate-read-bits
 slice-aggregate-read-bits c = search needs
@@ -104,7 +104,7 @@ attempt-spec =
     sub-window
     part-window-start
     part-window-end
-    seam-agrees-requires
+    ends-agree-requires
     returns-2
     slice-aggregate-read-bits
     read-bits-requires

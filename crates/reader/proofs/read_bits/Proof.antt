@@ -16,8 +16,8 @@ use Rattle.cyclic.specs.Check.{turnOf, divisible}
 use Rattle.cyclic.proofs.Laws.{turnOf-at}
 use Rattle.cyclic.proofs.Formats.{factsOf}
 use Rattle.cyclic.proofs.Machine.Lists.{remainder-list}
-use Rattle.reader.specs.Reads.{seamAgrees}
-use Rattle.reader.proofs.Steps.{room-refused, seam-refused, divisible-refused, turn-refused, turn-found}
+use Rattle.reader.specs.Reads.{endsAgree}
+use Rattle.reader.proofs.Steps.{room-refused, ends-refused, divisible-refused, turn-refused, turn-found}
 use Rattle.reader.proofs.read_bits.Statement.{statement}
 use Rattle.reader.proofs.read_bits.Tie as tie
 
@@ -37,22 +37,22 @@ returns c =
 room : (c : tie.Else1) → let a = c .before .before .before .before .args in numbersOf (a .format) .m ≤ length (a .output .now)
 room c = omega arith
 
-seam-agrees-requires : tie.Need-seam-agrees-requires
-seam-agrees-requires c κs = search needs
+ends-agree-requires : tie.Need-ends-agree-requires
+ends-agree-requires c κs = search needs
 
 returns-2 : tie.Need-returns-2
 returns-2 c =
     let call = c .before in
     let start = call .before .before .before .before .before in
     let a = start .args in
-    seam-refused (a .format) (a .window .now) (a .output .now) (bits start) (room (call .before))
-    (sym (call .seam-agrees .ensures) ∙ not-true _ (c .if2 .taken))
+    ends-refused (a .format) (a .window .now) (a .output .now) (bits start) (room (call .before))
+    (sym (call .ends-agree .ensures) ∙ not-true _ (c .if2 .taken))
 
--- the seam agrees
-seam : (c : tie.Else2) →
+-- the ends agree
+agree : (c : tie.Else2) →
     let a = c .before .before .before .before .before .before .args in
-    seamAgrees (numbersOf (a .format)) (a .window .now) ≡ true
-seam c = sym (c .before .seam-agrees .ensures) ∙ not-false _ (c .if2 .left)
+    endsAgree (numbersOf (a .format)) (a .window .now) ≡ true
+agree c = sym (c .before .ends-agree .ensures) ∙ not-false _ (c .if2 .left)
 
 telegram-bits-requires : tie.Need-telegram-bits-requires
 telegram-bits-requires c κs = search needs
@@ -88,7 +88,7 @@ returns-3 c =
     let agreed = call .before .before .before in
     let start = agreed .before .before .before .before .before .before in
     let a = start .args in
-    divisible-refused (a .format) (a .window .now) (a .output .now) (bits start) (room (agreed .before .before)) (seam agreed)
+    divisible-refused (a .format) (a .window .now) (a .output .now) (bits start) (room (agreed .before .before)) (agree agreed)
     (tested call ∙ not-true _ (c .if3 .taken))
 
 slice-aggregate-remainder-f : tie.Need-slice-aggregate-remainder-f
@@ -134,7 +134,7 @@ returns-4 c =
     let agreed = divided .before .before .before .before in
     let start = agreed .before .before .before .before .before .before in
     let a = start .args in
-    turn-refused (a .format) (a .window .now) (a .output .now) (bits start) (room (agreed .before .before)) (seam agreed)
+    turn-refused (a .format) (a .window .now) (a .output .now) (bits start) (room (agreed .before .before)) (agree agreed)
     (tested (divided .before) ∙ not-false _ (divided .if3 .left)) (turn-is turn ∙ c .enum-told .given .1)
 
 read-turned-requires : tie.Need-read-turned-requires
@@ -161,7 +161,7 @@ returns-5 c =
     let agreed = divided .before .before .before .before in
     let start = agreed .before .before .before .before .before .before in
     let a = start .args in
-    turn-found (a .format) (a .window .now) (a .output .now) (bits start) (room (agreed .before .before)) (seam agreed)
+    turn-found (a .format) (a .window .now) (a .output .now) (bits start) (room (agreed .before .before)) (agree agreed)
     (tested (divided .before) ∙ not-false _ (divided .if3 .left)) (told .t .given .0 .0) (turn-is turn ∙ told .t .given .1)
     ∙ answer .read-turned .ensures
 
@@ -171,7 +171,7 @@ read-bits-spec =
     (tie.spec
     user-bits-requires
     returns
-    seam-agrees-requires
+    ends-agree-requires
     returns-2
     telegram-bits-requires
     slice-aggregate-divisible

@@ -1,4 +1,4 @@
--- `reader::seam_agrees` meets its contract, by that of `same`. Assumes nothing.
+-- `reader::ends_agree` meets its contract, by that of `same`. Assumes nothing.
 use mathlib.Core.Path.{sym, ap, ap₂, _∙_}
 use mathlib.Core.List.{List}
 use Prim.Native.Nat.{ℕ}
@@ -8,9 +8,9 @@ use lib.ListN.{take, drop}
 use lib.Seq.{length-take-le}
 use Rattle.cyclic.specs.Check.{same}
 use Rattle.telegrams.proofs.Buffers.Fronts.{lent-is}
-use Rattle.reader.specs.Reads.{seamAgrees}
-use Rattle.reader.proofs.seam_agrees.Statement.{statement}
-use Rattle.reader.proofs.seam_agrees.Tie as tie
+use Rattle.reader.specs.Reads.{endsAgree}
+use Rattle.reader.proofs.ends_agree.Statement.{statement}
+use Rattle.reader.proofs.ends_agree.Tie as tie
 
 telegram-bits-requires : tie.Need-telegram-bits-requires
 telegram-bits-requires c κs = search needs
@@ -36,7 +36,7 @@ same-requires : tie.Need-same-requires
 same-requires c κs = search needs
 
 returns : tie.Need-returns
-unfolding seamAgrees
+unfolding endsAgree
 returns c =
     let extra = c .before .before .before in
     let bits = extra .before in
@@ -45,8 +45,8 @@ returns c =
     ∙ ap (λ (l : List ℕ). same l (take (extra .extra-bits .result) w)) (lent-is (bits .telegram-bits .result) w)
     ∙ ap₂ (λ (n r : ℕ). same (drop n w) (take r w)) (bits .telegram-bits .ensures) (extra .extra-bits .ensures)
 
-pub seam-agrees-spec : {M : Type 1} → statement M
-seam-agrees-spec =
+pub ends-agree-spec : {M : Type 1} → statement M
+ends-agree-spec =
     tie.close
     (tie.spec
     telegram-bits-requires
