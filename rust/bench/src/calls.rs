@@ -1,6 +1,6 @@
 //! The public calls against the second program's.
 
-use crate::{heading, line, nanoseconds, plain, print, set, INPUTS, SETS};
+use crate::{heading, microseconds, plain, row, set, timed_row, INPUTS, SETS};
 use second::format::{Format, FORMATS};
 use second::random::Random;
 use second::telegram::cut;
@@ -15,11 +15,11 @@ const TRIES: usize = 2;
 /// Different telegrams to check and to read; more would take long to make.
 const TELEGRAMS: usize = 64;
 
-/// The mean and the worst of the blocks' times, in microseconds.
+/// The mean and the worst of the blocks' times.
 fn mean_and_worst(times: &[f64]) -> (f64, f64) {
     let sum: f64 = times.iter().sum();
     let worst = times.iter().copied().fold(0.0, f64::max);
-    (sum / times.len() as f64 / 1000.0, worst / 1000.0)
+    (sum / times.len() as f64, worst)
 }
 
 /// The least times of both encoders for each block.
@@ -31,11 +31,11 @@ fn encode(blocks: &[Vec<u8>]) -> (Vec<f64>, Vec<f64>) {
     );
     for _ in 0..TRIES {
         for (i, block) in blocks.iter().enumerate() {
-            let time = nanoseconds(|| {
+            let time = microseconds(|| {
                 black_box(balise::encode(black_box(block), &mut output)).expect("a pair");
             });
             ours[i] = ours[i].min(time);
-            let time = nanoseconds(|| {
+            let time = microseconds(|| {
                 black_box(second::encode(black_box(block), &mut output)).expect("a pair");
             });
             plain[i] = plain[i].min(time);
@@ -56,8 +56,8 @@ fn telegrams(random: &mut Random, format: Format) -> Vec<Vec<u8>> {
         .collect()
 }
 
-/// Prints the lines of encoding for a format.
-fn encode_lines(random: &mut Random, format: Format) {
+/// Prints the rows of encoding for a format.
+fn encode_rows(random: &mut Random, format: Format) {
     let blocks: Vec<Vec<u8>> = (0..BLOCKS)
         .map(|_| random.bits(format.user_bits()))
         .collect();
@@ -65,13 +65,13 @@ fn encode_lines(random: &mut Random, format: Format) {
     let (our_mean, our_worst) = mean_and_worst(&ours);
     let (plain_mean, plain_worst) = mean_and_worst(&plain);
     let name = format!("encode, {}, mean", format.name());
-    print(&name, our_mean, plain_mean, "at most 1.0");
+    row(&name, our_mean, plain_mean, "1.0");
     let name = format!("encode, {}, worst block", format.name());
-    print(&name, our_worst, plain_worst, "at most 1.0");
+    row(&name, our_worst, plain_worst, "1.0");
 }
 
-/// Prints the line of checking for a format.
-fn check_line(random: &mut Random, proper: &[Vec<u8>], format: Format) {
+/// Prints the row of checking for a format.
+fn check_row(random: &mut Random, proper: &[Vec<u8>], format: Format) {
     let inputs: Vec<Vec<u8>> = (0..SETS * INPUTS)
         .map(|_| proper[random.below(TELEGRAMS)].clone())
         .collect();
@@ -86,12 +86,12 @@ fn check_line(random: &mut Random, proper: &[Vec<u8>], format: Format) {
         }
     };
     let name = format!("check, {}", format.name());
-    line(&name, INPUTS, "at most 1.5", ours, plain);
+    timed_row(&name, INPUTS, "1.5", ours, plain);
 }
 
-/// Prints the line of reading for a format: windows at any turn, half of them
+/// Prints the row of reading for a format: windows at any turn, half of them
 /// flipped. Plain Rust and the second program read them alike.
-fn read_line(random: &mut Random, proper: &[Vec<u8>], format: Format) {
+fn read_row(random: &mut Random, proper: &[Vec<u8>], format: Format) {
     let inputs: Vec<Vec<u8>> = (0..SETS * INPUTS)
         .map(|i| {
             let telegram = &proper[random.below(TELEGRAMS)];
@@ -118,29 +118,31 @@ fn read_line(random: &mut Random, proper: &[Vec<u8>], format: Format) {
         }
     };
     let name = format!("read, {}", format.name());
-    line(&name, INPUTS, "at most 1.5", ours, plain);
+    timed_row(&name, INPUTS, "1.5", ours, plain);
 }
 
 pub fn calls() {
     let mut random = Random::new(2);
     println!();
-    println!(
-        "The calls. Encoding: microseconds a block, over {BLOCKS} random blocks of each format,"
-    );
-    println!("the less of {TRIES} times; plain is the second program's.");
+    println!("## Calls");
+    println!();
+    println!("Encoding: {BLOCKS} random blocks of each format, the less of {TRIES} times; plain is the second");
+    println!("program, which forms and tests each pair in order.");
     println!();
     heading();
     for format in FORMATS {
-        encode_lines(&mut random, format);
+        encode_rows(&mut random, format);
     }
     println!();
-    println!("Nanoseconds a call, medians as above: proper telegrams, and windows of them cut");
-    println!("at any turn, half of them flipped; plain is plain Rust with the same algorithm.");
+    println!(
+        "Proper telegrams, and windows of them cut at any turn, half of them flipped; plain is"
+    );
+    println!("plain Rust with the same algorithm, written for speed.");
     println!();
     heading();
     for format in FORMATS {
         let proper = telegrams(&mut random, format);
-        check_line(&mut random, &proper, format);
-        read_line(&mut random, &proper, format);
+        check_row(&mut random, &proper, format);
+        read_row(&mut random, &proper, format);
     }
 }

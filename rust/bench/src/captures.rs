@@ -1,6 +1,6 @@
 //! The search of a capture against the second program's, and how its time grows.
 
-use crate::{heading, nanoseconds, print};
+use crate::{heading, microseconds, row};
 use second::cyclic::check_bits;
 use second::format::{Format, FORMATS};
 use second::random::Random;
@@ -12,15 +12,15 @@ use std::hint::black_box;
 const LENGTHS: [usize; 7] = [1000, 1500, 2000, 3000, 4500, 6000, CAPTURE_LIMIT];
 
 fn ours(capture: &[u8]) -> f64 {
-    nanoseconds(|| {
+    microseconds(|| {
         let _ = black_box(balise::search(black_box(capture)));
-    }) / 1000.0
+    })
 }
 
 fn plain(capture: &[u8]) -> f64 {
-    nanoseconds(|| {
+    microseconds(|| {
         let _ = black_box(second::search(black_box(capture)));
-    }) / 1000.0
+    })
 }
 
 /// The least time of ours on captures that are taken in turn.
@@ -31,15 +31,15 @@ fn least(captures: &[Vec<u8>], repetitions: usize) -> f64 {
         .fold(f64::INFINITY, f64::min)
 }
 
-/// Prints a line of the table; the captures are taken in turn, and the least
+/// Prints a row of the table; the captures are taken in turn, and the least
 /// time counts.
-fn line(name: &str, captures: &[Vec<u8>], repetitions: usize) {
+fn least_row(name: &str, captures: &[Vec<u8>], repetitions: usize) {
     let (mut our_time, mut plain_time) = (f64::INFINITY, f64::INFINITY);
     for capture in captures.iter().cycle().take(repetitions) {
         our_time = our_time.min(ours(capture));
         plain_time = plain_time.min(plain(capture));
     }
-    print(name, our_time, plain_time, "none");
+    row(name, our_time, plain_time, "");
 }
 
 fn noise(random: &mut Random, length: usize) -> Vec<Vec<u8>> {
@@ -79,49 +79,58 @@ fn other_control(random: &mut Random, format: Format) -> Vec<u8> {
     capture
 }
 
+/// Prints the ratios for captures of the full length.
+fn ratios(random: &mut Random) {
+    println!("The search of a capture of {CAPTURE_LIMIT} bits, the least of several times; plain is the second");
+    println!(
+        "program. Zeros, and telegrams whose control bits alone are wrong, are the captures at"
+    );
+    println!("which every place costs most.");
+    println!();
+    heading();
+    least_row("noise", &noise(random, CAPTURE_LIMIT), 101);
+    least_row("zeros", &[vec![0; CAPTURE_LIMIT]], 3);
+    for format in FORMATS {
+        let captures: Vec<Vec<u8>> = (0..16).map(|_| at_the_end(random, format)).collect();
+        let name = format!("noise, a {} window at the end", format.name());
+        least_row(&name, &captures, 101);
+    }
+    for format in FORMATS {
+        let name = format!("{}, other control bits", format.name());
+        least_row(&name, &[other_control(random, format)], 3);
+    }
+}
+
+/// Prints how our time grows with the length.
+fn growth(random: &mut Random) {
+    println!(
+        "How ours grows, microseconds. A capture of n bits has n - 461 places for a short window"
+    );
+    println!("and n - 1,099 for a long one, and the time goes by the places.");
+    println!();
+    println!("| bits | noise | a place | zeros | a place |");
+    println!("|---|---|---|---|---|");
+    for length in LENGTHS {
+        let on_noise = least(&noise(random, length), 301);
+        let on_zeros = least(&[vec![0; length]], 11);
+        let places: usize = FORMATS
+            .map(|format| (length + 1).saturating_sub(format.window_bits()))
+            .iter()
+            .sum();
+        println!(
+            "| {length} | {on_noise:.1} | {:.4} | {on_zeros:.0} | {:.2} |",
+            on_noise / places as f64,
+            on_zeros / places as f64
+        );
+    }
+}
+
 pub fn captures() {
     let mut random = Random::new(3);
     println!();
-    println!(
-        "Microseconds a search of a capture of {CAPTURE_LIMIT} bits, the least of several times;"
-    );
-    println!("plain is the second program's. Zeros, and telegrams whose control bits alone are");
-    println!("wrong, are the captures at which every place costs most.");
+    println!("## Captures");
     println!();
-    heading();
-    line("noise", &noise(&mut random, CAPTURE_LIMIT), 101);
-    line("zeros", &[vec![0; CAPTURE_LIMIT]], 3);
-    for format in FORMATS {
-        let captures: Vec<Vec<u8>> = (0..16).map(|_| at_the_end(&mut random, format)).collect();
-        line(
-            &format!("noise, a {} window at the end", format.name()),
-            &captures,
-            101,
-        );
-    }
-    for format in FORMATS {
-        line(
-            &format!("{}, other control bits", format.name()),
-            &[other_control(&mut random, format)],
-            3,
-        );
-    }
+    ratios(&mut random);
     println!();
-    println!("How ours grows: microseconds a search, and by 1,000 bits. A capture of n bits has");
-    println!("n - 461 places for a short window and n - 1,099 for a long one.");
-    println!();
-    println!(
-        "{:>6} {:>10} {:>10} {:>10} {:>10}",
-        "bits", "noise", "by 1,000", "zeros", "by 1,000"
-    );
-    for length in LENGTHS {
-        let on_noise = least(&noise(&mut random, length), 301);
-        let on_zeros = least(&[vec![0; length]], 11);
-        let thousands = length as f64 / 1000.0;
-        println!(
-            "{length:>6} {on_noise:>10.1} {:>10.2} {on_zeros:>10.1} {:>10.2}",
-            on_noise / thousands,
-            on_zeros / thousands
-        );
-    }
+    growth(&mut random);
 }

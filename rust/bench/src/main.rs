@@ -1,13 +1,17 @@
 //! Times the proved calls and layers against plain Rust in one run, and prints
-//! the medians of interleaved repetitions. It judges nothing.
+//! docs/PERFORMANCE.md. It judges nothing. An argument names a file with what
+//! `.ci/run` printed, for the seconds of the check.
 
 mod calls;
 mod captures;
-mod layer_lines;
+mod gate;
+mod layer_rows;
 mod plain;
 
 use second::random::Random;
+use std::process::exit;
 use std::time::Instant;
+use std::{env, fs};
 
 /// Many short repetitions, so that most are not interrupted.
 const REPETITIONS: usize = 301;
@@ -28,10 +32,10 @@ fn set(inputs: &[Vec<u8>], i: usize) -> &[Vec<u8>] {
     &inputs[i * INPUTS..][..INPUTS]
 }
 
-fn nanoseconds(work: impl FnOnce()) -> f64 {
+fn microseconds(work: impl FnOnce()) -> f64 {
     let start = Instant::now();
     work();
-    start.elapsed().as_nanos() as f64
+    start.elapsed().as_nanos() as f64 / 1000.0
 }
 
 fn median(mut times: Vec<f64>) -> f64 {
@@ -39,21 +43,22 @@ fn median(mut times: Vec<f64>) -> f64 {
     times[times.len() / 2]
 }
 
+/// Prints the head of a table of ratios.
 fn heading() {
-    println!(
-        "{:<34} {:>9} {:>9} {:>7}  aim",
-        "", "ours", "plain", "ratio"
-    );
+    println!("| what | ours, microseconds | ours / plain | aim: at most |");
+    println!("|---|---|---|---|");
 }
 
-fn print(name: &str, ours: f64, plain: f64, aim: &str) {
+/// Prints a row of it, the times in microseconds.
+fn row(name: &str, ours: f64, plain: f64, aim: &str) {
+    let digits = if ours < 10.0 { 3 } else { 0 };
     let ratio = ours / plain;
-    println!("{name:<34} {ours:>9.1} {plain:>9.1} {ratio:>7.3}  {aim}");
+    println!("| {name} | {ours:.digits$} | {ratio:.2} | {aim} |");
 }
 
-/// Prints a line of the table. Each closure does a number of calls on a set of
-/// inputs; `aim` says what the ratio of ours to plain is to be.
-fn line(
+/// Times both sides and prints a row. Each closure does a number of calls on a
+/// set of inputs.
+fn timed_row(
     name: &str,
     calls: usize,
     aim: &str,
@@ -63,14 +68,44 @@ fn line(
     let (mut our_times, mut plain_times) = (Vec::new(), Vec::new());
     for repetition in 0..REPETITIONS {
         let i = repetition % SETS;
-        our_times.push(nanoseconds(|| ours(i)) / calls as f64);
-        plain_times.push(nanoseconds(|| plain(i)) / calls as f64);
+        our_times.push(microseconds(|| ours(i)) / calls as f64);
+        plain_times.push(microseconds(|| plain(i)) / calls as f64);
     }
-    print(name, median(our_times), median(plain_times), aim);
+    row(name, median(our_times), median(plain_times), aim);
+}
+
+/// What `.ci/run` printed, if an argument names the file that has it.
+fn gate_log() -> Option<String> {
+    let path = env::args().nth(1)?;
+    match fs::read_to_string(&path) {
+        Ok(log) => Some(log),
+        Err(error) => {
+            eprintln!("bench: {path}: {error}");
+            exit(2);
+        }
+    }
 }
 
 fn main() {
-    layer_lines::layers();
+    let log = gate_log();
+    println!("# Figures");
+    println!();
+    println!(
+        "Printed by the program `bench`, with nothing else running, from the repository's root:"
+    );
+    println!();
+    println!("```");
+    println!("mkdir -p rust/target && .ci/run > rust/target/gate.log");
+    println!("cd rust && cargo run --release --offline -p bench -- target/gate.log > ../docs/PERFORMANCE.md");
+    println!("```");
+    println!();
+    println!("Ratios of one run, both sides built for release; nothing asserts a time. Medians of");
+    println!("{REPETITIONS} repetitions of {INPUTS} inputs, ours and plain in turn, unless a table says otherwise. Output");
+    println!("buffers are cleared before the first call only, for both.");
+    layer_rows::layers();
     calls::calls();
     captures::captures();
+    if let Some(log) = log {
+        gate::gate(&log);
+    }
 }

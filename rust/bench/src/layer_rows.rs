@@ -1,7 +1,7 @@
 //! The layers against plain Rust.
 
 use crate::plain::{self, FG, G};
-use crate::{heading, inputs, line, set, INPUTS, REPETITIONS};
+use crate::{heading, inputs, set, timed_row, INPUTS};
 use second::cyclic;
 use second::format::Format;
 use second::random::Random;
@@ -12,8 +12,8 @@ use std::hint::black_box;
 type Ours = fn(bool, &[u8], &mut [u64]);
 type Plain = fn(&[u8]) -> u128;
 
-/// Prints the lines of a division: the second program's has a variable divisor.
-fn division_lines(name: &str, telegrams: &[Vec<u8>], ours: Ours, divisor: u128, plain: Plain) {
+/// Prints the rows of a division: the second program's has a variable divisor.
+fn division_rows(name: &str, telegrams: &[Vec<u8>], ours: Ours, divisor: u128, plain: Plain) {
     let mut two_words = [0; 2];
     let mut ours = |i| {
         for bits in set(telegrams, i) {
@@ -31,14 +31,14 @@ fn division_lines(name: &str, telegrams: &[Vec<u8>], ours: Ours, divisor: u128, 
             black_box(plain(black_box(bits)));
         }
     };
-    let name = format!("remainder of 1,023 bits by {name}");
-    line(&name, INPUTS, "at most 1.5", &mut ours, variable);
-    let name = "  divisor a constant";
-    line(name, INPUTS, "at most 1.5", &mut ours, constant);
+    let name = format!("remainder of 1,023 bits by {name}, the divisor a variable");
+    timed_row(&name, INPUTS, "1.5", &mut ours, variable);
+    let name = "the same, the divisor a constant";
+    timed_row(name, INPUTS, "1.5", &mut ours, constant);
 }
 
-/// Prints the line of the lookup of each of the 2,048 words.
-fn look_up_line() {
+/// Prints the row of the lookup of each of the 2,048 words.
+fn look_up_row() {
     let ours = |_| {
         for word in 0..2048 {
             black_box(layers::look_up(black_box(word)));
@@ -49,12 +49,12 @@ fn look_up_line() {
             black_box(words::number(black_box(word)));
         }
     };
-    let name = "look-up of a word, all 2,048 words";
-    line(name, 2048, "at most 0.1", ours, plain);
+    let name = "lookup of a word, each of 2,048";
+    timed_row(name, 2048, "0.1", ours, plain);
 }
 
-/// Prints the line of scrambling, each block by another B.
-fn scrambling_line(blocks: &[Vec<u8>]) {
+/// Prints the row of scrambling, each block by another B.
+fn scrambling_row(blocks: &[Vec<u8>]) {
     let mut out = [0; Format::Long.user_bits()];
     let mut plain_out = out;
     let ours = |i| {
@@ -70,26 +70,27 @@ fn scrambling_line(blocks: &[Vec<u8>]) {
         }
     };
     let name = "scrambling of 830 bits";
-    line(name, INPUTS, "at most 1.5", ours, plain);
+    timed_row(name, INPUTS, "1.5", ours, plain);
 }
 
 pub fn layers() {
     let mut random = Random::new(1);
     let telegrams = inputs(&mut random, Format::Long.telegram_bits());
     let blocks = inputs(&mut random, Format::Long.user_bits());
-    println!("Nanoseconds a call, medians of {REPETITIONS} repetitions of {INPUTS} random inputs.");
-    println!("Ours include the wrapper's test that each byte is a bit. Output buffers are");
-    println!("cleared before the first call only, for both.");
+    println!();
+    println!("## Layers");
+    println!();
+    println!(
+        "Ours include the wrapper's test that each byte is a bit. Plain: the second program's"
+    );
+    println!("division in a u128, its divisor a variable, and the same loop with its divisor a");
+    println!("constant; its walk of the table from the front; the same algorithm of scrambling.");
     println!();
     heading();
     let by_g = plain::remainder::<G>;
-    division_lines("g", &telegrams, layers::remainder_g, G, by_g);
+    division_rows("g", &telegrams, layers::remainder_g, G, by_g);
     let by_fg = plain::remainder::<FG>;
-    division_lines("f*g", &telegrams, layers::remainder_fg, FG, by_fg);
-    look_up_line();
-    scrambling_line(&blocks);
-    println!();
-    println!("Plain: the second program's u128 register, its divisor a variable, and the same");
-    println!("loop with its divisor a constant; the second program's walk of the table from the");
-    println!("front; a loop with the same algorithm of scrambling.");
+    division_rows("f*g", &telegrams, layers::remainder_fg, FG, by_fg);
+    look_up_row();
+    scrambling_row(&blocks);
 }
