@@ -1,10 +1,10 @@
 // Runs of valid words.
 ghost use mathlib.Core.Path.{_≡_};
-ghost use Prim.Native.Nat.{max, _≤_, _<_};
+ghost use Prim.Native.Nat.{_*_, max, _≤_, _<_};
 ghost use lib.Dec.{T};
 ghost use lib.ListN.{length};
 ghost use Rattle.bits.specs.Bits.{allBits};
-ghost use Rattle.conditions.specs.Runs.{validWords, longest};
+ghost use Rattle.conditions.specs.Runs.{validWords, longest, longestRound};
 use crate::ring;
 
 // The larger of two numbers.
@@ -34,4 +34,13 @@ pub fn longest_run(b: &[u8], p: usize, count: usize) -> usize
         i += 1;
     }
     larger(best, run)
+}
+
+// The longest run of valid words round the ring, whose words from place p on are count: twice round holds every run.
+pub fn longest_round(b: &[u8], p: usize, count: usize) -> usize
+    requires { ⌜ T (allBits (now b)) × ((p < length (now b)) × (11 ≤ length (now b))) ⌝ }
+    requires { ⌜ 11 * count ≡ length (now b) ⌝ }
+    ensures { λ r. ⌜ r ≡ longestRound (validWords count p (now (b .entry))) ⌝ }
+{
+    longest_run(b, p, 2 * count)
 }

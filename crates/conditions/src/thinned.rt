@@ -24,14 +24,14 @@ fn thin(b: &[u8], step: usize, out: &mut [u8])
     }
 }
 
-// Whether at each of the 11 alignments no run round the ring of v exceeds 30: twice round holds every run.
+// Whether at each of the 11 alignments no run round the ring of v exceeds 30.
 fn within_round(format: Format, v: &[u8]) -> bool
     requires { ⌜ T (allBits (now v)) × (length (now v) ≡ numbersOf format .n) ⌝ }
     ensures { λ r. ⌜ r ≡ each (thinnedAt format (now (v .entry))) 0 11 ⌝ }
 {
-    let count = 2 * format::words(format);
+    let words = format::words(format);
     for a in 0..11 {
-        if 30 < run::longest_run(v, a, count) {
+        if 30 < run::longest_round(v, a, words) {
             return false;
         }
     }
