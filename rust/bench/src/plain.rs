@@ -1,5 +1,5 @@
-//! Plain Rust with the algorithms of the proved code, written for speed: no
-//! branch on a bit, divisors that the compiler knows, no heap.
+//! Plain Rust with the algorithms of the proved code, written for speed:
+//! divisors that the compiler knows, and no heap.
 
 use second::conditions::{off_step_limit, THINNED_RUN};
 use second::format::Format;
