@@ -1,5 +1,7 @@
 pub mod AllBits
 pub mod Both
+pub mod Differences
+pub mod Equal
 pub mod First
 pub mod Flipped
 pub mod Mask

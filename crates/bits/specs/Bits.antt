@@ -3,7 +3,7 @@
 use Prim.Native.Nat.{ℕ, zero, suc, _+_, _-_, _*_, _/_, _%_, _^_}
 use mathlib.Core.Bool.{Bool, true, false}
 use mathlib.Core.List.{List, [], _∷_}
-use lib.Dec.{ltb}
+use lib.Dec.{eqb, ltb}
 use lib.ListN.{length, getD}
 
 -- both tests hold
@@ -15,6 +15,13 @@ both false b = false
 unfoldable pub allBits : List ℕ → Bool
 allBits [] = true
 allBits (b ∷ s) = both (ltb b 2) (allBits s)
+
+-- the two lists are the same
+unfoldable pub same : List ℕ → List ℕ → Bool
+same [] [] = true
+same [] (b ∷ v) = false
+same (a ∷ u) [] = false
+same (a ∷ u) (b ∷ v) = both (eqb a b) (same u v)
 
 -- the number whose binary digits are those of a and then the bits of s
 unfoldable pub numberFrom : ℕ → List ℕ → ℕ

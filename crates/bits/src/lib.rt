@@ -1,11 +1,11 @@
-// Bits, one to a byte, earliest sent first: the test that every byte is 0 or 1, the number of
-// some consecutive bits, the bits of a number, and the flip.
+// Bits, one to a byte, earliest sent first: the tests that every byte is 0 or 1 and that two slices are the same, the
+// number of some consecutive bits, the bits of a number, and the flip.
 ghost use mathlib.Core.Path.{_≡_};
 ghost use Prim.Native.Nat.{_+_, _≤_, _<_};
 ghost use mathlib.Core.List.{_++_};
 ghost use lib.Dec.{T};
 ghost use lib.ListN.{length, take, drop};
-ghost use Rattle.bits.specs.Bits.{allBits, numberOf, bitsOf, flip};
+ghost use Rattle.bits.specs.Bits.{allBits, same, numberOf, bitsOf, flip};
 
 // Whether every byte of s is 0 or 1.
 pub fn all_bits(s: &[u8]) -> bool
@@ -19,6 +19,13 @@ pub fn all_bits(s: &[u8]) -> bool
         i += 1;
     }
     true
+}
+
+// Whether a and b are as long and the same at each place.
+pub fn same(a: &[u8], b: &[u8]) -> bool
+    ensures { λ r. ⌜ r ≡ same (now (a .entry)) (now (b .entry)) ⌝ }
+{
+    check::same(a, b)
 }
 
 // The number of the k bits of s from index at on, the first in the highest place.

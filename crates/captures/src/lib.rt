@@ -13,6 +13,7 @@ use formats::format::Long;
 use formats::refusal::Refusal;
 use reader::ReadAnswer;
 use reader::Reading;
+use reader::tested;
 
 // A capture has at most this many bits.
 pub const LIMIT: usize = 7500;
@@ -43,11 +44,11 @@ fn attempt(format: Format, capture: &[u8], place: usize) -> ReadAnswer
     }
     let end = place + size;
     let window = &capture[place..end];
-    if !reader::ends_agree(format, window) {
+    if !tested::ends_agree(format, window) {
         return ReadAnswer::Refused(Refusal::EndsDiffer);
     }
     let mut output = [0u8; Long::M];
-    reader::read_bits(format, window, &mut output)
+    tested::read_bits(format, window, &mut output)
 }
 
 // The first place at which read accepts: places from 0 up, long before short at one place, as far as a short window fits.

@@ -5,14 +5,14 @@ use mathlib.Core.Path.{_≡_, refl, ap, _∙_}
 use mathlib.Core.Bool.{true, false}
 use mathlib.Core.List.{List}
 use lib.ListN.{length}
-use Rattle.bits.specs.Bits.{allBits}
+use Rattle.bits.specs.Bits.{allBits, same}
 use Rattle.formats.specs.declared.format.Format.{Format}
 use Rattle.formats.specs.declared.format.Fit.{Fit}
 use Rattle.formats.specs.declared.format.Fit.the-variants.{As, Nothing}
 use Rattle.formats.specs.declared.refusal.Refusal.the-variants.{Length, NotBit, NotDivisible, NoTurn, Control, NotWord, OffStep, Repeating, Thinned}
 use Rattle.formats.specs.Numbers.{long, short, numbersOf, fitOf}
 use Rattle.formats.specs.Outcome.{orRefuse}
-use Rattle.cyclic.specs.Check.{same, divisible, unturned}
+use Rattle.cyclic.specs.Check.{divisible, unturned}
 use Rattle.telegrams.specs.Telegram.{control}
 use Rattle.telegrams.specs.Fields.{controlOf, allWords}
 use Rattle.conditions.specs.Conditions.{offStep, notRepeating, thinnedOut}

@@ -6,13 +6,13 @@ use mathlib.Core.Bool.{Bool, true}
 use mathlib.Core.List.{List}
 use lib.Dec.{T}
 use lib.ListN.{length}
-use Rattle.bits.specs.Bits.{both, allBits}
+use Rattle.bits.specs.Bits.{both, allBits, same}
 use Rattle.bits.proofs.Both.{both-left, both-right, both-of}
 use Rattle.formats.specs.declared.format.Format.{Format}
 use Rattle.formats.specs.declared.refusal.Refusal.{Refusal}
 use Rattle.formats.specs.declared.refusal.Refusal.the-variants.{Length, NotBit, OutputShort, NoPair, EndsDiffer, NotDivisible, NoTurn, Control, NotWord, OffStep, Repeating, Thinned, NoPlace}
 use Rattle.formats.specs.Numbers.{numbersOf}
-use Rattle.cyclic.specs.Check.{same, divisible, unturned}
+use Rattle.cyclic.specs.Check.{divisible, unturned}
 use Rattle.telegrams.specs.Telegram.{control}
 use Rattle.telegrams.specs.Fields.{controlOf, allWords, wellFormed}
 use Rattle.conditions.specs.Conditions.{offStep, notRepeating, thinnedOut, proper}

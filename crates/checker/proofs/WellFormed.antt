@@ -5,15 +5,15 @@ use mathlib.Core.Path.{_≡_}
 use mathlib.Core.List.{List}
 use lib.Dec.{T}
 use lib.ListN.{length}
-use Rattle.bits.specs.Bits.{allBits}
+use Rattle.bits.specs.Bits.{allBits, same}
 use Rattle.bits.proofs.Both.{both-left, both-right, both-of}
+use Rattle.bits.proofs.Equal.{same-equal, same-of}
 use Rattle.bits.proofs.Tests.{is-true}
 use Rattle.formats.specs.declared.format.Format.{Format}
 use Rattle.formats.specs.Numbers.{numbersOf}
 use Rattle.formats.proofs.Sizes.{sizesOf}
-use Rattle.cyclic.specs.Check.{same, divisible, unturned}
+use Rattle.cyclic.specs.Check.{divisible, unturned}
 use Rattle.cyclic.proofs.Formats.{factsOf}
-use Rattle.cyclic.proofs.Same.{same-equal, same-of}
 use Rattle.telegrams.specs.Telegram.{control}
 use Rattle.telegrams.specs.Fields.{controlOf, allWords, wellFormed}
 use Rattle.telegrams.proofs.Checked.{checked-factors}

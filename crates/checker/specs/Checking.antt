@@ -3,7 +3,7 @@
 use Prim.Native.Nat.{ℕ}
 use mathlib.Core.List.{List, [], _∷_}
 use lib.ListN.{length}
-use Rattle.bits.specs.Bits.{allBits}
+use Rattle.bits.specs.Bits.{allBits, same}
 use Rattle.formats.specs.declared.format.Format.{Format}
 use Rattle.formats.specs.declared.format.Fit.{Fit}
 use Rattle.formats.specs.declared.format.Fit.the-variants.{As, Nothing}
@@ -11,7 +11,7 @@ use Rattle.formats.specs.declared.refusal.Refusal.the-variants.{Length, NotBit,
 use Rattle.formats.specs.Numbers.{long, short, numbersOf, fitOf}
 use Rattle.formats.specs.Outcome.{orRefuse}
 use Rattle.formats.specs.AnswerValues.{formatNumber, refusalValues}
-use Rattle.cyclic.specs.Check.{same, divisible, unturned}
+use Rattle.cyclic.specs.Check.{divisible, unturned}
 use Rattle.telegrams.specs.Telegram.{control}
 use Rattle.telegrams.specs.Fields.{controlOf, allWords}
 use Rattle.conditions.specs.Conditions.{offStep, notRepeating, thinnedOut}

@@ -1,4 +1,3 @@
-pub mod Differences
 pub mod Each
 pub mod Round
 pub mod Runs

@@ -2,11 +2,12 @@
 -- at place n-1-i of the list, and the strip from b(n-1-p) rightward starts at place p.
 -- Assumes nothing.
 use Prim.Native.Nat.{ℕ, zero, suc, _+_, _-_, _*_, _%_, _^_}
-use mathlib.Core.Bool.{Bool, true, false, cond}
+use mathlib.Core.Bool.{Bool, true, cond}
 use mathlib.Core.List.{List, [], _∷_}
 use lib.Dec.{eqb, leb}
 use lib.ListN.{length, getD}
 use Rattle.bits.specs.Bits.{both, around}
+use Rattle.bits.specs.Differences.{differences}
 use Rattle.formats.specs.declared.format.Format.{Format}
 use Rattle.formats.specs.declared.format.Format.the-variants.{Long, Short}
 use Rattle.formats.specs.Numbers.{numbersOf}
@@ -32,16 +33,6 @@ offStepAt format b p = leb (longest (validWords (numbersOf format .words - 1) p 
 
 unfoldable pub offStep : Format → List ℕ → Bool
 offStep format b = each (offStepAt format b) 1 10
-
-abbrev pub countDiffering : Bool → ℕ → ℕ
-countDiffering true k = k
-countDiffering false k = suc k
-
--- in how many places two lists differ
-unfoldable pub differences : List ℕ → List ℕ → ℕ
-differences [] v = 0
-differences (a ∷ u) [] = 0
-differences (a ∷ u) (c ∷ v) = countDiffering (eqb a c) (differences u v)
 
 -- condition 3. The 22 bits from place p and those from place q differ in at least d places
 unfoldable pub apart : ℕ → List ℕ → ℕ → ℕ → Bool

@@ -6,11 +6,11 @@ use mathlib.Core.Bool.{Bool, true, not}
 use mathlib.Core.List.{List, [], _∷_, _++_}
 use lib.Dec.{T, lit<}
 use lib.ListN.{drop, replicate}
-use Rattle.bits.specs.Bits.{both, allBits}
+use Rattle.bits.specs.Bits.{both, allBits, same}
 use Rattle.formats.specs.Polynomial.{sum, product, polynomial, coefficientOf, coefficientsBelow}
 use Rattle.formats.specs.Numbers.{Numbers, long, short, fOf, gOf, fgOf}
 use Rattle.cyclic.specs.Remainder.{step, remainderFrom, remainder}
-use Rattle.cyclic.specs.Check.{same, turnRemainder}
+use Rattle.cyclic.specs.Check.{turnRemainder}
 use Rattle.cyclic.proofs.Lists.{Bits, zeros}
 use Rattle.cyclic.proofs.Registers.{Monic}
 

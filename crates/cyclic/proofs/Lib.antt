@@ -6,7 +6,6 @@ pub mod Quotients
 pub mod Remainders
 pub mod Facts
 pub mod Cyclic
-pub mod Same
 pub mod Turns
 pub mod Rounds
 pub mod Laws

@@ -9,19 +9,20 @@ use native.Mathlib.Decide.{decLt}
 use native.Mathlib.Omega.{arith}
 use lib.Dec.{T, T-not, lit<}
 use lib.ListN.{drop, replicate-append-replicate}
+use Rattle.bits.specs.Bits.{same}
 use Rattle.formats.specs.Numbers.{Numbers, fOf, gOf}
 use Rattle.cyclic.specs.declared.Turn.{Turn}
 use Rattle.cyclic.specs.declared.Turn.the-variants.{At, Nothing}
 use Rattle.cyclic.specs.Remainder.{step, remainder}
-use Rattle.cyclic.specs.Check.{same, turnRemainder, turnAmong, turnOf}
+use Rattle.cyclic.specs.Check.{turnRemainder, turnAmong, turnOf}
 use Rattle.bits.proofs.Both.{both-left, both-right}
+use Rattle.bits.proofs.Equal.{same-equal, same-of}
 use Rattle.bits.proofs.Tests.{clash}
 use Rattle.cyclic.proofs.Lists.{zeros}
 use Rattle.cyclic.proofs.Space.{pow, pow-X, pow-nil, pow-add, one-turn}
 use Rattle.cyclic.proofs.Registers.{Reg, same-bits, Mod, none, tail}
 use Rattle.cyclic.proofs.Remainders.{remainder-next}
 use Rattle.cyclic.proofs.Facts.{Facts, never}
-use Rattle.cyclic.proofs.Same.{same-equal, same-of}
 use Rattle.cyclic.proofs.Cyclic.{modF, remF, turn-is, g-round}
 
 -- what `never` tests: none of the first k shifts of s is o

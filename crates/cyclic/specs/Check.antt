@@ -1,11 +1,10 @@
 -- The check bits, and the turn of a window from its remainder by f (document 01, "Check bits" and "Search, reading and place").
 -- Assumes nothing.
 use Prim.Native.Nat.{ℕ, zero, suc, _-_}
-use mathlib.Core.Bool.{Bool, true, false, cond}
-use mathlib.Core.List.{List, [], _∷_, _++_}
-use lib.Dec.{eqb}
+use mathlib.Core.Bool.{Bool, cond}
+use mathlib.Core.List.{List, _++_}
 use lib.ListN.{length, take, drop, replicate}
-use Rattle.bits.specs.Bits.{both}
+use Rattle.bits.specs.Bits.{same}
 use Rattle.formats.specs.Polynomial.{sum}
 use Rattle.formats.specs.Numbers.{Numbers, fOf, gOf, fgOf}
 use Rattle.cyclic.specs.declared.Turn.{Turn}
@@ -27,13 +26,6 @@ turned t b = drop t b ++ take t b
 -- the remainder by f of every telegram turned by s: that of g times x^s
 unfoldable pub turnRemainder : Numbers → ℕ → List ℕ
 turnRemainder F s = remainder (fOf F) (gOf F ++ replicate s 0)
-
--- the two lists are the same
-unfoldable pub same : List ℕ → List ℕ → Bool
-same [] [] = true
-same [] (b ∷ v) = false
-same (a ∷ u) [] = false
-same (a ∷ u) (b ∷ v) = both (eqb a b) (same u v)
 
 -- the first turn from s on, of the next k, whose remainder by f is v
 unfoldable pub turnAmong : Numbers → ℕ → ℕ → List ℕ → Turn

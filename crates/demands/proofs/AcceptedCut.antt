@@ -10,6 +10,7 @@ use lib.ListN.{length, take, drop}
 use lib.Seq.{length-take-le}
 use Rattle.bits.specs.Bits.{allBits, around}
 use Rattle.bits.proofs.AllBits.{allBits-take}
+use Rattle.bits.proofs.Equal.{same-true}
 use Rattle.bits.proofs.Tests.{holds}
 use Rattle.formats.specs.declared.format.Format.{Format}
 use Rattle.formats.specs.declared.format.Format.the-variants.{Long, Short}
@@ -20,7 +21,6 @@ use Rattle.cyclic.specs.Remainder.{remainder}
 use Rattle.cyclic.specs.Check.{gPadded, divisible}
 use Rattle.cyclic.proofs.Laws.{zeros, bits-turned, length-turned, reads-turned, turnOf-at}
 use Rattle.cyclic.proofs.Formats.{factsOf}
-use Rattle.cyclic.proofs.Same.{same-true}
 use Rattle.telegrams.specs.Telegram.{control}
 use Rattle.telegrams.specs.Fields.{controlOf, scramblingOf, allWords, userBitsOf, wellFormed}
 use Rattle.telegrams.proofs.Checked.{checked-remainder}

@@ -9,6 +9,7 @@ use lib.Dec.{T, eqb}
 use lib.ListN.{length, getD, take, drop}
 use lib.Seq.{getD-drop, getD-take}
 use Rattle.bits.specs.Bits.{allBits, around}
+use Rattle.bits.proofs.Equal.{equal-same}
 use Rattle.bits.proofs.Flipped.{getD-flip}
 use Rattle.bits.proofs.Ring.{length-around, allBits-around}
 use Rattle.bits.proofs.Tests.{is-true}
@@ -20,7 +21,6 @@ use Rattle.cyclic.specs.Remainder.{remainder}
 use Rattle.cyclic.specs.Check.{gPadded, turned, turnOf, divisible}
 use Rattle.cyclic.proofs.Laws.{Facts, zeros, turned-back, turned-reads, flip-fg, turnOf-turn}
 use Rattle.cyclic.proofs.Formats.{factsOf}
-use Rattle.cyclic.proofs.Same.{equal-same}
 use Rattle.telegrams.specs.Telegram.{control}
 use Rattle.telegrams.specs.Fields.{controlOf, scramblingOf, allWords, userBitsOf, wellFormed}
 use Rattle.telegrams.proofs.Checked.{checked-remainder}

@@ -9,6 +9,8 @@ use native.Mathlib.Omega.{arith}
 use lib.Dec.{T}
 use lib.ListN.{length, take, drop, replicate, length-replicate}
 use Rattle.bits.specs.Bits.{allBits, around}
+use Rattle.bits.specs.Differences.{differences}
+use Rattle.bits.proofs.Equal.{other-same}
 use Rattle.bits.proofs.Ring.{length-around, allBits-around}
 use Rattle.bits.proofs.Tests.{is-true}
 use Rattle.formats.specs.declared.format.Format.{Format}
@@ -16,9 +18,8 @@ use Rattle.formats.specs.declared.format.Format.the-variants.{Long, Short}
 use Rattle.formats.specs.declared.refusal.Refusal.the-variants.{OutputShort, EndsDiffer, NoTurn}
 use Rattle.formats.specs.Numbers.{numbersOf, windowBits, long, short}
 use Rattle.formats.specs.Outcome.{Outcome}
-use Rattle.cyclic.proofs.Same.{other-same}
 use Rattle.telegrams.proofs.WellFormed.{parts}
-use Rattle.conditions.specs.Conditions.{differences, notRepeating}
+use Rattle.conditions.specs.Conditions.{notRepeating}
 use Rattle.encoder.specs.Encoding.{encodeOf}
 use Rattle.reader.specs.declared.Reading.{Reading}
 use Rattle.reader.specs.declared.ReadAnswer.{ReadAnswer}
@@ -34,8 +35,8 @@ use Rattle.demands.proofs.Encoder.{first-answered}
 use Rattle.demands.proofs.CutAccepted.{formed-code}
 use Rattle.demands.proofs.Reader.{fronts-same, cut-read}
 use Rattle.demands.proofs.Wrote.{some-first, wrote-proper, wrote-formed, wrote-scrambling, wrote-userBits, proper-apart}
-use Rattle.demands.proofs.Fifteen.{ends-differ, ends-differ-flipped}
-use Rattle.demands.proofs.ThreeRounds.{rounds-agree, rounds-divisible, rounds-no-turn}
+use Rattle.demands.proofs.ShortFromLong.{ends-differ, ends-differ-flipped}
+use Rattle.demands.proofs.LongFromShort.{rounds-agree, rounds-divisible, rounds-no-turn}
 
 -- encode answers with the first proper pair and writes its telegram
 encodes : (format : Format) (u out : List ℕ) → SomeProper format u → numbersOf format .n ≤ length out

@@ -8,7 +8,8 @@ use mathlib.Core.Logic.{_↔_, _⊎_, inl, inr}
 use native.Mathlib.Omega.{arith}
 use lib.Dec.{T, leb, leb→le, lit≤}
 use lib.ListN.{length, take, drop}
-use Rattle.bits.specs.Bits.{allBits}
+use Rattle.bits.specs.Bits.{allBits, same}
+use Rattle.bits.proofs.Equal.{same-equal, same-of}
 use Rattle.formats.specs.declared.format.Format.{Format}
 use Rattle.formats.specs.declared.refusal.Refusal.{Refusal}
 use Rattle.formats.specs.declared.refusal.Refusal.the-variants.{Length, NotBit, OutputShort, NoPair, EndsDiffer, NotDivisible, NoTurn, Control, NotWord, OffStep, Repeating, Thinned, NoPlace}
@@ -21,10 +22,9 @@ use Rattle.formats.proofs.Sizes.{sizesOf}
 use Rattle.cyclic.specs.declared.Turn.{Turn}
 use Rattle.cyclic.specs.declared.Turn.the-variants.{At, Nothing as NoneFits}
 use Rattle.cyclic.specs.Remainder.{remainder}
-use Rattle.cyclic.specs.Check.{same, turnOf, divisible}
+use Rattle.cyclic.specs.Check.{turnOf, divisible}
 use Rattle.cyclic.proofs.Laws.{turn-unique, turnOf-at, turnOf-nothing}
 use Rattle.cyclic.proofs.Formats.{factsOf}
-use Rattle.cyclic.proofs.Same.{same-equal, same-of}
 use Rattle.telegrams.specs.Telegram.{control}
 use Rattle.telegrams.specs.Fields.{controlOf, allWords, userBitsOf}
 use Rattle.telegrams.proofs.Made.{length-userBits}

@@ -5,7 +5,7 @@ use mathlib.Core.List.{List, [], _∷_, _++_}
 use Prim.Native.Nat.{ℕ}
 use lib.Dec.{lit≤}
 use lib.ListN.{getD, length, take, replicate}
-use Rattle.bits.specs.Bits.{allBits, numberFrom, bitsOf}
+use Rattle.bits.specs.Bits.{allBits, same, numberFrom, bitsOf}
 use Rattle.formats.specs.declared.format.Format.the-variants.{Long, Short}
 use Rattle.formats.specs.declared.refusal.Refusal.the-variants.{NoTurn}
 use Rattle.formats.specs.Outcome.{Outcome, outcome}
@@ -16,14 +16,14 @@ use Rattle.words.specs.Words.{wordOf}
 use Rattle.scrambling.specs.Scrambling.{nextState, scrambledFrom, scrambled}
 use Rattle.scrambling.specs.Sum.{sumOfBlocks, withSum, withoutSum}
 use Rattle.cyclic.specs.Remainder.{step, remainderFrom, remainder}
-use Rattle.cyclic.specs.Check.{same, divisible, turnOf}
+use Rattle.cyclic.specs.Check.{divisible, turnOf}
 use Rattle.cyclic.proofs.Laws.{shortFacts, zeros}
 use Rattle.reader.specs.declared.ReadAnswer.{ReadAnswer}
 use Rattle.reader.specs.declared.ReadAnswer.the-variants.{Refused}
 use Rattle.reader.specs.Reads.{readValues, endsAgree, readAs, readOf}
 use Rattle.reader.proofs.Steps.{length-fits, turn-refused}
 use Rattle.demands.specs.BenchSheet.{refusedRead, answers, sheet}
-use Rattle.demands.proofs.ThreeRounds.{zero-no-turn}
+use Rattle.demands.proofs.LongFromShort.{zero-no-turn}
 
 -- W10: 462 zeros pass the tests before the turn, and leave the remainder 0 by f
 zeros-bits : allBits (replicate 462 0) ≡ true

@@ -6,7 +6,7 @@ use Prim.Native.Nat.{ℕ}
 use native.Mathlib.Omega.{arith}
 use lib.Dec.{T}
 use lib.ListN.{replicate}
-use Rattle.bits.specs.Bits.{allBits, numberFrom, bitsOf, around}
+use Rattle.bits.specs.Bits.{allBits, same, numberFrom, bitsOf, around}
 use Rattle.formats.specs.declared.format.Format.the-variants.{Short}
 use Rattle.formats.specs.Numbers.{short, fOf, gOf, fgOf}
 use Rattle.formats.specs.Polynomial.{coefficientOf, coefficientsBelow, polynomial, sum, product}
@@ -15,7 +15,7 @@ use Rattle.words.specs.Words.{wordOf, lookupFrom, lookupOf}
 use Rattle.scrambling.specs.Scrambling.{nextState, scrambledFrom, scrambled}
 use Rattle.scrambling.specs.Sum.{sumOfBlocks, withSum}
 use Rattle.cyclic.specs.Remainder.{step, remainderFrom, remainder}
-use Rattle.cyclic.specs.Check.{gPadded, checkBits, same}
+use Rattle.cyclic.specs.Check.{gPadded, checkBits}
 use Rattle.telegrams.specs.Telegram.{shaped, shapedData, settings, unchecked, telegramOf}
 use Rattle.telegrams.specs.Fields.{controlOf, isWord, allWords, checked, wellFormed}
 use Rattle.conditions.specs.Runs.{validWords, longestAfter}

@@ -8,11 +8,11 @@ use mathlib.Core.Path.{_≡_}
 use lib.Dec.{T}
 use lib.ListN.{length, take}
 use Rattle.bits.specs.Bits.{allBits}
+use Rattle.bits.specs.Differences.{differences}
 use Rattle.formats.specs.declared.format.Format.{Format}
 use Rattle.formats.specs.declared.format.Format.the-variants.{Long, Short}
 use Rattle.formats.specs.declared.refusal.Refusal.the-variants.{OutputShort, EndsDiffer, NoTurn}
 use Rattle.formats.specs.Numbers.{numbersOf, windowBits}
-use Rattle.conditions.specs.Conditions.{differences}
 use Rattle.encoder.specs.declared.Encoded.the-variants.{Pair}
 use Rattle.encoder.specs.Encoding.{encodeOf}
 use Rattle.reader.specs.Windows.{cut}

@@ -5,14 +5,14 @@ use mathlib.Core.List.{List}
 use Prim.Native.Nat.{ℕ, _≤_}
 use borrow.Author.Tests.{le-leb}
 use lib.ListN.{length, take}
-use Rattle.bits.specs.Bits.{allBits}
+use Rattle.bits.specs.Bits.{allBits, same}
 use Rattle.formats.specs.declared.format.Format.{Format}
 use Rattle.formats.specs.Numbers.{numbersOf, windowBits, fOf}
 use Rattle.formats.specs.Outcome.{Outcome, outcome, orRefuse}
 use Rattle.cyclic.specs.declared.Turn.{Turn}
 use Rattle.cyclic.specs.declared.Turn.the-variants.{At, Nothing as NoneFits}
 use Rattle.cyclic.specs.Remainder.{remainder}
-use Rattle.cyclic.specs.Check.{same, turnOf, divisible}
+use Rattle.cyclic.specs.Check.{turnOf, divisible}
 use Rattle.telegrams.specs.Telegram.{control}
 use Rattle.telegrams.specs.Fields.{controlOf, allWords}
 use Rattle.reader.specs.declared.ReadAnswer.{ReadAnswer}

@@ -6,7 +6,7 @@ use Prim.Native.Nat.{ℕ, _≤_, _<_}
 use native.Mathlib.Omega.{arith}
 use borrow.Author.Tests.{le-leb, lt-leb}
 use lib.ListN.{length, take, drop}
-use Rattle.bits.specs.Bits.{allBits}
+use Rattle.bits.specs.Bits.{allBits, same}
 use Rattle.formats.specs.declared.format.Format.{Format}
 use Rattle.formats.specs.declared.format.Fit.{Fit}
 use Rattle.formats.specs.declared.format.Fit.the-variants.{As, Nothing}
@@ -17,7 +17,7 @@ use Rattle.formats.proofs.Fits
 use Rattle.cyclic.specs.declared.Turn.{Turn}
 use Rattle.cyclic.specs.declared.Turn.the-variants.{At, Nothing as NoneFits}
 use Rattle.cyclic.specs.Remainder.{remainder}
-use Rattle.cyclic.specs.Check.{same, turnOf, divisible}
+use Rattle.cyclic.specs.Check.{turnOf, divisible}
 use Rattle.telegrams.specs.Telegram.{control}
 use Rattle.telegrams.specs.Fields.{controlOf, allWords, userBitsOf}
 use Rattle.reader.specs.declared.ReadAnswer.the-variants.{Read, Refused}

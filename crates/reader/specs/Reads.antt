@@ -6,7 +6,7 @@ use mathlib.Core.Bool.{Bool}
 use mathlib.Core.List.{List, [], _∷_, _++_}
 use lib.Dec.{eqb, leb}
 use lib.ListN.{length, getD, take, drop}
-use Rattle.bits.specs.Bits.{allBits}
+use Rattle.bits.specs.Bits.{allBits, same}
 use Rattle.formats.specs.declared.format.Format.{Format}
 use Rattle.formats.specs.declared.format.Fit.{Fit}
 use Rattle.formats.specs.declared.format.Fit.the-variants.{As, Nothing}
@@ -15,7 +15,7 @@ use Rattle.formats.specs.Numbers.{Numbers, long, short, numbersOf, windowBits, 
 use Rattle.cyclic.specs.declared.Turn.{Turn}
 use Rattle.cyclic.specs.declared.Turn.the-variants.{At, Nothing as NoneFits}
 use Rattle.cyclic.specs.Remainder.{remainder}
-use Rattle.cyclic.specs.Check.{same, turned, turnOf, divisible}
+use Rattle.cyclic.specs.Check.{turned, turnOf, divisible}
 use Rattle.formats.specs.Outcome.{Outcome, outcome, orRefuse}
 use Rattle.formats.specs.AnswerValues.{formatNumber, flippedNumber, refusalValues}
 use Rattle.telegrams.specs.Telegram.{control}

@@ -1,24 +1,16 @@
 // Reading a window (document 01, "Search, reading and place"): its tests in the order of their numbers, and what it tells.
 ghost use mathlib.Core.Path.{_≡_};
-ghost use lib.Dec.{T};
-ghost use lib.ListN.{length};
-ghost use Rattle.bits.specs.Bits.{allBits};
-ghost use Rattle.formats.specs.Numbers.{numbersOf, windowBits};
 ghost use Rattle.formats.specs.Outcome.{outcome};
-ghost use Rattle.reader.specs.Reads.{endsAgree, readAs, readOf, readValues};
-use cyclic::Turn;
-use cyclic::divisors;
-use cyclic::remainder;
-use cyclic::turning;
+ghost use Rattle.reader.specs.Reads.{readOf, readValues};
 use formats::format;
 use formats::format::Fit;
 use formats::format::Format;
 use formats::format::Long;
 use formats::format::Short;
 use formats::refusal::Refusal;
-use telegrams::checking;
 
 mod telegram;
+pub mod tested;
 mod turned;
 mod unshaping;
 
@@ -36,39 +28,6 @@ pub enum ReadAnswer {
     Refused(Refusal),
 }
 
-// Whether the window's last r bits repeat its first. Where they do not, the first bit that differs ends the test.
-pub fn ends_agree(format: Format, window: &[u8]) -> bool
-    requires { ⌜ length (now window) ≡ windowBits (numbersOf format) ⌝ }
-    ensures { λ r. ⌜ r ≡ endsAgree (numbersOf format) (now (window .entry)) ⌝ }
-{
-    let n = format::telegram_bits(format);
-    let r = format::extra_bits(format);
-    checking::same(&window[n..], &window[..r])
-}
-
-// Reads a window of the format, whose bytes are known to be bits. Read, output has the user bits in front; refused, it keeps every byte.
-pub fn read_bits(format: Format, window: &[u8], output: &mut [u8]) -> ReadAnswer
-    requires { ⌜ T (allBits (now window)) ⌝ }
-    requires { ⌜ length (now window) ≡ windowBits (numbersOf format) ⌝ }
-    ensures { λ r. ⌜ readAs format (now (window .entry)) (now (output .entry)) ≡ outcome r (now (output .exit)) ⌝ }
-{
-    if output.len() < format::user_bits(format) {
-        return ReadAnswer::Refused(Refusal::OutputShort);
-    }
-    if !ends_agree(format, window) {
-        return ReadAnswer::Refused(Refusal::EndsDiffer);
-    }
-    let n = format::telegram_bits(format);
-    if !divisors::divisible(format, &window[..n]) {
-        return ReadAnswer::Refused(Refusal::NotDivisible);
-    }
-    let rest = remainder::remainder_f(format, &window[..n]);
-    let Turn::At(t) = turning::turn(format, rest) else {
-        return ReadAnswer::Refused(Refusal::NoTurn);
-    };
-    telegram::read_turned(format, t, window, output)
-}
-
 // Reads a window. Read, output has the user bits in front and keeps the rest; refused, it keeps every byte.
 pub fn read(window: &[u8], output: &mut [u8]) -> ReadAnswer
     ensures answers { λ r. ⌜ readOf (now (window .entry)) (now (output .entry)) ≡ outcome r (now (output .exit)) ⌝ }
@@ -81,5 +40,5 @@ pub fn read(window: &[u8], output: &mut [u8]) -> ReadAnswer
     if !bits::all_bits(window) {
         return ReadAnswer::Refused(Refusal::NotBit);
     }
-    read_bits(format, window, output)
+    tested::read_bits(format, window, output)
 }

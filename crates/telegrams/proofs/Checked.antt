@@ -10,12 +10,12 @@ use lib.ListN.{length, take, drop, length-drop, take-append-drop}
 use Rattle.bits.specs.Bits.{both, allBits}
 use Rattle.bits.proofs.AllBits.{allBits-take, allBits-drop}
 use Rattle.bits.proofs.Both.{both-left, both-right, both-of}
+use Rattle.bits.proofs.Equal.{same-equal, same-of}
 use Rattle.formats.specs.Numbers.{Numbers, fOf, gOf, fgOf}
 use Rattle.formats.proofs.Sizes.{Sizes}
 use Rattle.cyclic.specs.Remainder.{remainder}
 use Rattle.cyclic.specs.Check.{gPadded, checkBits, turnRemainder, divisible, unturned}
 use Rattle.cyclic.proofs.Laws.{Facts, zeros, checks, two-factors, factors-two}
-use Rattle.cyclic.proofs.Same.{same-equal, same-of}
 use Rattle.telegrams.specs.Fields.{checked}
 
 -- 0 by g and turn 0 by f, as one remainder by f*g

@@ -8,6 +8,7 @@ use lib.ListN.{length, take, drop, length-append}
 use lib.Seq.{take-at, drop-at, drop-drop}
 use Rattle.bits.specs.Bits.{allBits, numberOf, bitsOf}
 use Rattle.bits.proofs.AllBits.{allBits-append, allBits-bitsOf}
+use Rattle.bits.proofs.Equal.{same-of}
 use Rattle.bits.proofs.Numbers.{length-bitsOf, numberOf-bitsOf}
 use Rattle.formats.specs.Numbers.{Numbers, blocks}
 use Rattle.formats.proofs.Sizes.{Sizes}
@@ -17,7 +18,6 @@ use Rattle.scrambling.proofs.Scrambled.{scrambled-length, scrambled-bits, descr
 use Rattle.scrambling.proofs.Summed.{withSum-length, withSum-bits, withoutSum-length, withoutSum-bits, withoutSum-withSum}
 use Rattle.cyclic.specs.Check.{checkBits}
 use Rattle.cyclic.proofs.Laws.{Facts, bits-checkBits, length-checkBits}
-use Rattle.cyclic.proofs.Same.{same-of}
 use Rattle.telegrams.specs.Telegram.{shapedData, control, settings, unchecked, telegramOf}
 use Rattle.telegrams.specs.Fields.{controlOf, scramblingOf, shapingOf, unshaped, userBitsOf, allWords, checked}
 use Rattle.telegrams.proofs.Shaping.{length-shaped, bits-shaped, length-unshaped, allWords-shaped, unshaped-all}

@@ -7,9 +7,10 @@ use native.Mathlib.Omega.{arith}
 use lib.Dec.{T, eqb, eqb→eq, eqb-refl}
 use lib.ListN.{length, take, drop, length-drop, take-append-drop}
 use lib.Seq.{drop-drop, take-add}
-use Rattle.bits.specs.Bits.{both, allBits}
+use Rattle.bits.specs.Bits.{both, allBits, same}
 use Rattle.bits.proofs.AllBits.{allBits-drop}
 use Rattle.bits.proofs.Both.{both-left, both-right, both-of}
+use Rattle.bits.proofs.Equal.{same-equal, same-of}
 use Rattle.bits.proofs.Parts.{front-below, front-bits}
 use Rattle.bits.proofs.Tests.{tests-agree}
 use Rattle.formats.specs.Numbers.{Numbers, blocks}
@@ -17,9 +18,8 @@ use Rattle.formats.proofs.Sizes.{Sizes}
 use Rattle.scrambling.specs.Scrambling.{scrambled, descrambled}
 use Rattle.scrambling.proofs.Scrambled.{descrambled-length, descrambled-bits, scrambled-descrambled}
 use Rattle.scrambling.proofs.Summed.{withSum-withoutSum}
-use Rattle.cyclic.specs.Check.{checkBits, same}
+use Rattle.cyclic.specs.Check.{checkBits}
 use Rattle.cyclic.proofs.Laws.{Facts}
-use Rattle.cyclic.proofs.Same.{same-equal, same-of}
 use Rattle.telegrams.specs.Telegram.{shaped, shapedData, control, settings, unchecked, telegramOf}
 use Rattle.telegrams.specs.Fields.{controlOf, scramblingOf, shapingOf, unshaped, userBitsOf, allWords, checked, wellFormed}
 use Rattle.telegrams.proofs.Words.{allWords-add}

@@ -6,14 +6,14 @@ use mathlib.Core.Bool.{Bool, true, false}
 use mathlib.Core.List.{List, [], _++_}
 use lib.Dec.{eqb}
 use lib.ListN.{length, take, drop}
-use Rattle.bits.specs.Bits.{both, allBits, numberOf, bitsOf}
+use Rattle.bits.specs.Bits.{both, allBits, same, numberOf, bitsOf}
 use Rattle.formats.specs.Numbers.{Numbers, blocks}
 use Rattle.words.specs.declared.Lookup.{Lookup}
 use Rattle.words.specs.declared.Lookup.the-variants.{Number, NotInTable}
 use Rattle.words.specs.Words.{lookupOf, inTable}
 use Rattle.scrambling.specs.Scrambling.{descrambled}
 use Rattle.scrambling.specs.Sum.{withoutSum}
-use Rattle.cyclic.specs.Check.{checkBits, same}
+use Rattle.cyclic.specs.Check.{checkBits}
 use Rattle.telegrams.specs.Telegram.{control}
 
 -- b109 to b107

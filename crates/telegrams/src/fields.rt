@@ -3,12 +3,10 @@ ghost use mathlib.Core.Path.{_≡_};
 ghost use Prim.Native.Nat.{_*_, _-_, _≤_};
 ghost use lib.Dec.{T};
 ghost use lib.ListN.{length, take, drop};
-ghost use Rattle.bits.specs.Bits.{allBits, numberOf};
+ghost use Rattle.bits.specs.Bits.{allBits, same, numberOf};
 ghost use Rattle.formats.specs.Numbers.{numbersOf};
-ghost use Rattle.cyclic.specs.Check.{same};
 ghost use Rattle.telegrams.specs.Telegram.{control};
 ghost use Rattle.telegrams.specs.Fields.{controlOf, scramblingOf, shapingOf, allWords};
-use crate::checking;
 use formats::format;
 use formats::format::Format;
 
@@ -40,7 +38,7 @@ pub fn has_control(format: Format, telegram: &[u8]) -> bool
     let n = format::telegram_bits(format);
     let at = n - 110;
     let control = CONTROL;
-    checking::same(&telegram[at..at + 3], &control)
+    bits::same(&telegram[at..at + 3], &control)
 }
 
 // The number of the k bits from b(p-1) on.

@@ -4,15 +4,15 @@ use mathlib.Core.List.{List}
 use Prim.Native.Nat.{ℕ}
 use lib.Dec.{T, eqb, eqb→eq, eqb-refl}
 use lib.ListN.{replicate}
-use Rattle.bits.specs.Bits.{allBits, numberOf}
+use Rattle.bits.specs.Bits.{allBits, same, numberOf}
+use Rattle.bits.proofs.Equal.{same-equal, same-of}
 use Rattle.bits.proofs.Tests.{tests-agree}
 use Rattle.formats.specs.declared.format.Format.{Format}
 use Rattle.formats.specs.Numbers.{numbersOf, fOf, gOf}
-use Rattle.cyclic.specs.Check.{same, divisible, unturned, turnRemainder}
+use Rattle.cyclic.specs.Check.{divisible, unturned, turnRemainder}
 use Rattle.cyclic.specs.Remainder.{remainder}
 use Rattle.cyclic.proofs.Formats.{factsOf}
 use Rattle.cyclic.proofs.Laws.{remainder-bits, length-remainder, bits-turn, length-turn}
-use Rattle.cyclic.proofs.Same.{same-equal, same-of}
 use Rattle.cyclic.proofs.Machine.Lists.{one-list, remainder-zero, zero-remainder}
 
 -- equal numbers pass the test of equality

@@ -7,7 +7,8 @@ use native.Mathlib.Nat.{mod-eq-of-lt}
 use native.Mathlib.Numerals.{add-one}
 use native.Mathlib.Omega.{arith}
 use lib.Dec.{lit<}
-use Rattle.bits.specs.Bits.{numberFrom, numberOf, bitsOf}
+use Rattle.bits.specs.Bits.{same, numberFrom, numberOf, bitsOf}
+use Rattle.bits.proofs.Equal.{same-equal, equal-same}
 use Rattle.bits.proofs.Tests.{is-false}
 use Rattle.bits.proofs.Numbers.{numberOf-below, numberOf-bitsOf, bitsOf-numberOf}
 use Rattle.formats.specs.declared.format.Format.{Format}
@@ -15,10 +16,9 @@ use Rattle.formats.specs.declared.format.Format.the-variants.{Long, Short}
 use Rattle.formats.specs.Numbers.{Numbers, numbersOf, fOf, gOf}
 use Rattle.formats.specs.Polynomial.{polynomial, coefficientsBelow, coefficientOf, sum}
 use Rattle.cyclic.specs.declared.Turn.the-variants.{At, Nothing}
-use Rattle.cyclic.specs.Check.{turnRemainder, same, turnAmong, turnOf}
+use Rattle.cyclic.specs.Check.{turnRemainder, turnAmong, turnOf}
 use Rattle.cyclic.specs.Machine.{stepV}
 use Rattle.cyclic.specs.Remainder.{remainder, remainderFrom, step}
-use Rattle.cyclic.proofs.Same.{same-equal, equal-same}
 use Rattle.cyclic.proofs.Formats.{factsOf}
 use Rattle.cyclic.proofs.Laws.{bits-turn, length-turn, turn-next}
 use Rattle.cyclic.proofs.Machine.Bridge.{step-number}

@@ -11,7 +11,7 @@ use borrow.Author.Tests.{eq-eqb, ne-eqb}
 use lib.Dec.{eqb}
 use lib.ListN.{length, getD}
 use Rattle.bits.specs.Bits.{around}
-use Rattle.conditions.specs.Conditions.{differences, countDiffering}
+use Rattle.bits.specs.Differences.{countDiffering, differences}
 use Rattle.conditions.proofs.Round.{around-mod, around-more, around-done}
 use Rattle.conditions.proofs.repeating.differing.Statement.{statement}
 use Rattle.conditions.proofs.repeating.differing.Tie as tie

@@ -7,7 +7,8 @@ use borrow.Author.Needs.{needs}
 use borrow.Author.Tests.{le-leb, lt-leb, not-true, not-false}
 use lib.Dec.{leb}
 use Rattle.bits.specs.Bits.{both, around}
-use Rattle.conditions.specs.Conditions.{each, apart, differences, shiftedApart}
+use Rattle.bits.specs.Differences.{differences}
+use Rattle.conditions.specs.Conditions.{each, apart, shiftedApart}
 use Rattle.conditions.proofs.Tests.{three-tests}
 use Rattle.conditions.proofs.repeating.shifted_apart.Statement.{statement}
 use Rattle.conditions.proofs.repeating.shifted_apart.Tie as tie

@@ -8,12 +8,12 @@ use borrow.Author.Needs.{needs}
 use borrow.Author.Tests.{not-true, not-false}
 use lib.ListN.{drop, replicate}
 use lib.Seq.{length-take-le}
+use Rattle.bits.specs.Bits.{same}
 use Rattle.bits.proofs.Tests.{holds}
 use Rattle.formats.specs.declared.refusal.Refusal.{Refusal}
 use Rattle.formats.specs.Numbers.{numbersOf, blocks}
 use Rattle.formats.specs.Outcome.{outcome}
 use Rattle.formats.proofs.Sizes.{sizesOf}
-use Rattle.cyclic.specs.Check.{same}
 use Rattle.telegrams.specs.Telegram.{control}
 use Rattle.telegrams.specs.Fields.{controlOf, allWords, unshaped}
 use Rattle.telegrams.proofs.Shaping.{length-unshaped, bits-unshaped}

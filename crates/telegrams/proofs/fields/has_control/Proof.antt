@@ -4,8 +4,8 @@ use Prim.Native.Nat.{ℕ, _+_, _-_}
 use native.Mathlib.Omega.{arith}
 use borrow.Author.Needs.{needs}
 use lib.ListN.{take, drop}
+use Rattle.bits.specs.Bits.{same}
 use Rattle.formats.proofs.Sizes.{sizesOf}
-use Rattle.cyclic.specs.Check.{same}
 use Rattle.telegrams.specs.Telegram.{control}
 use Rattle.telegrams.specs.Fields.{controlOf}
 use Rattle.telegrams.proofs.fields.has_control.Statement.{statement}

@@ -1,4 +1,4 @@
--- `reader::read_bits` meets its contract: the answer at each test, and what the telegram at the turn found gives. Assumes nothing.
+-- `reader::tested::read_bits` meets its contract: the answer at each test, and what the telegram at the turn found gives. Assumes nothing.
 use mathlib.Core.Path.{_≡_, sym, ap, _∙_}
 use mathlib.Core.Bool.{true}
 use Prim.Native.Nat.{ℕ, _≤_}
@@ -18,8 +18,8 @@ use Rattle.cyclic.proofs.Formats.{factsOf}
 use Rattle.cyclic.proofs.Machine.Lists.{remainder-list}
 use Rattle.reader.specs.Reads.{endsAgree}
 use Rattle.reader.proofs.Steps.{room-refused, ends-refused, divisible-refused, turn-refused, turn-found}
-use Rattle.reader.proofs.read_bits.Statement.{statement}
-use Rattle.reader.proofs.read_bits.Tie as tie
+use Rattle.reader.proofs.tested.read_bits.Statement.{statement}
+use Rattle.reader.proofs.tested.read_bits.Tie as tie
 
 bits : (c : tie.Start) → allBits (c .args .window .now) ≡ true
 bits c = is-true (allBits (c .args .window .now)) (c .pre .0)

@@ -1,4 +1,4 @@
--- `reader::ends_agree` meets its contract, by that of `same`. Assumes nothing.
+-- `reader::tested::ends_agree` meets its contract, by that of `same`. Assumes nothing.
 use mathlib.Core.Path.{sym, ap, ap₂, _∙_}
 use mathlib.Core.List.{List}
 use Prim.Native.Nat.{ℕ}
@@ -6,11 +6,11 @@ use native.Mathlib.Omega.{arith}
 use borrow.Author.Needs.{needs}
 use lib.ListN.{take, drop}
 use lib.Seq.{length-take-le}
-use Rattle.cyclic.specs.Check.{same}
+use Rattle.bits.specs.Bits.{same}
 use Rattle.telegrams.proofs.Buffers.Fronts.{lent-is}
 use Rattle.reader.specs.Reads.{endsAgree}
-use Rattle.reader.proofs.ends_agree.Statement.{statement}
-use Rattle.reader.proofs.ends_agree.Tie as tie
+use Rattle.reader.proofs.tested.ends_agree.Statement.{statement}
+use Rattle.reader.proofs.tested.ends_agree.Tie as tie
 
 telegram-bits-requires : tie.Need-telegram-bits-requires
 telegram-bits-requires c κs = search needs

@@ -1,14 +1,14 @@
--- `telegrams::checking::same` meets its contract: a test that holds of equal lists and of no others is `same`. Assumes nothing.
+-- `bits::same` meets its contract: a test that holds of equal lists and of no others is `same`. Assumes nothing.
 use mathlib.Core.Path.{_≡_, refl, sym}
 use mathlib.Core.Bool.{Bool, true, false}
 use mathlib.Core.List.{List}
 use Prim.Native.Nat.{ℕ}
 use borrow.Author.Needs.{needs}
+use Rattle.bits.specs.Bits.{same}
+use Rattle.bits.proofs.Equal.{equal-same, other-same}
 use Rattle.bits.proofs.Tests.{fails}
-use Rattle.cyclic.specs.Check.{same}
-use Rattle.cyclic.proofs.Same.{equal-same, other-same}
-use Rattle.telegrams.proofs.checking.same.Statement.{statement}
-use Rattle.telegrams.proofs.checking.same.Tie as tie
+use Rattle.bits.proofs.same.Statement.{statement}
+use Rattle.bits.proofs.same.Tie as tie
 
 agrees : (r : Bool) (u v : List ℕ) → (r ≡ true → u ≡ v) × (u ≡ v → r ≡ true) → r ≡ same u v
 agrees true u v h = sym (equal-same u v (h .0 refl))

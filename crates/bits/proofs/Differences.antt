@@ -8,9 +8,9 @@ use native.Mathlib.Nat.{zero-add}
 use native.Mathlib.Omega.{arith}
 use lib.Dec.{T, eqb, eqb→eq, eqb·zero-suc, eqb·suc-zero, eqb·suc-suc}
 use lib.ListN.{length, take, drop}
 use Rattle.bits.specs.Bits.{allBits, flip}
+use Rattle.bits.specs.Differences.{countDiffering, differences}
 use Rattle.bits.proofs.AllBits.{allBits-head, allBits-tail}
-use Rattle.conditions.specs.Conditions.{countDiffering, differences}
 
 count-same : (t : Bool) (k : ℕ) → T t → countDiffering t k ≡ k
 count-same true k h = refl

@@ -4,9 +4,9 @@ use mathlib.Core.Path.{_≡_, refl, ap₂, subst}
 use mathlib.Core.Bool.{true, false}
 use mathlib.Core.List.{List, [], _∷_}
 use lib.Dec.{T, eqb, eqb→eq, eqb-refl}
+use Rattle.bits.specs.Bits.{same}
 use Rattle.bits.proofs.Both.{both-left, both-right, both-of}
 use Rattle.bits.proofs.Tests.{is-true, is-false, holds}
-use Rattle.cyclic.specs.Check.{same}
 
 -- two lists that pass the test `same` are equal
 pub same-equal : (u v : List ℕ) → T (same u v) → u ≡ v

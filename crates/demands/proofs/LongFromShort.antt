@@ -8,6 +8,7 @@ use native.Mathlib.Omega.{arith}
 use lib.Dec.{T}
 use lib.ListN.{length, take, drop}
 use Rattle.bits.specs.Bits.{allBits, around}
+use Rattle.bits.proofs.Equal.{equal-same}
 use Rattle.bits.proofs.Ring.{length-around, allBits-around, around-append, take-around, drop-around, around-period, around-rounds, around-turned}
 use Rattle.formats.specs.Numbers.{Numbers, long, short, fOf, gOf, fgOf}
 use Rattle.cyclic.specs.declared.Turn.{Turn}
@@ -15,7 +16,6 @@ use Rattle.cyclic.specs.declared.Turn.the-variants.{At, Nothing}
 use Rattle.cyclic.specs.Remainder.{remainder}
 use Rattle.cyclic.specs.Check.{gPadded, turned, turnOf, divisible}
 use Rattle.cyclic.proofs.Laws.{Facts, longFacts, shortFacts, zeros, turned-reads, turn-never, turnOf-at, thrice}
-use Rattle.cyclic.proofs.Same.{equal-same}
 use Rattle.reader.specs.Reads.{endsAgree}
 
 -- the remainder 0 is that of no turn

@@ -9,13 +9,14 @@ use lib.Dec.{T, leb→le}
 use lib.ListN.{length, take, drop, length-take, length-drop}
 use lib.Seq.{drop-drop}
 use Rattle.bits.specs.Bits.{allBits, around, flip}
+use Rattle.bits.specs.Differences.{differences}
 use Rattle.bits.proofs.AllBits.{allBits-take, allBits-drop}
 use Rattle.bits.proofs.Both.{both-left}
+use Rattle.bits.proofs.Differences.{differences-append, differences-cut, differences-drop, differences-flip, differences-symmetric, differences-triangle}
 use Rattle.bits.proofs.Flipped.{flip-take, flip-drop, length-flip}
 use Rattle.bits.proofs.Ring.{length-around, allBits-around, around-append, around-rounds, take-around, drop-around}
 use Rattle.formats.specs.declared.format.Format.the-variants.{Long}
-use Rattle.conditions.specs.Conditions.{differences, apart, shiftedApart, notRepeating}
-use Rattle.conditions.proofs.Differences.{differences-append, differences-cut, differences-drop, differences-flip, differences-symmetric, differences-triangle}
+use Rattle.conditions.specs.Conditions.{apart, shiftedApart, notRepeating}
 use Rattle.conditions.proofs.Each.{each-at}
 
 -- first j places of both, then the rest
