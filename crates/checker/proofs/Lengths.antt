@@ -1,10 +1,9 @@
 -- The format that a telegram's length picks: the one of that length, or none (document 01, "What the bench takes in"). Assumes nothing.
 use Prim.Native.Nat.{ℕ}
-use mathlib.Core.Path.{_≡_, refl}
+use mathlib.Core.Path.{_≡_}
 use mathlib.Core.Logic.{_⊎_}
 use native.Mathlib.Omega.{arith}
 use Rattle.formats.specs.declared.format.Format.{Format}
-use Rattle.formats.specs.declared.format.Format.the-variants.{Long, Short}
 use Rattle.formats.specs.declared.format.Fit.the-variants.{As, Nothing}
 use Rattle.formats.specs.Numbers.{Numbers, long, short, numbersOf, fitOf}
 use Rattle.formats.proofs.Fits
@@ -22,10 +21,7 @@ fit-or-none = Fits.fit-or-none telegramBits apart
 
 -- no two formats have one length
 pub one-format : (size : ℕ) (f g : Format) → size ≡ numbersOf f .n → size ≡ numbersOf g .n → f ≡ g
-one-format size Long Long d e = refl
-one-format size Long Short d e = absurd (omega arith)
-one-format size Short Long d e = absurd (omega arith)
-one-format size Short Short d e = refl
+one-format = Fits.one-format telegramBits apart
 
 pub fits-as : (format : Format) (size : ℕ) → size ≡ numbersOf format .n → fitOf (long .n) (short .n) size ≡ As format
 fits-as = Fits.fits-as telegramBits apart

@@ -4,7 +4,7 @@ use mathlib.Core.Path.{_≡_, subst}
 use native.Mathlib.Omega.{arith}
 use Rattle.formats.specs.declared.format.Format.{Format}
 use Rattle.formats.specs.Numbers.{Numbers, long, short, numbersOf, windowBits}
-use Rattle.formats.proofs.Fits.{fits-as}
+use Rattle.formats.proofs.Fits.{one-format}
 
 abbrev pub blockBits : Numbers → ℕ
 blockBits F = F .m
@@ -16,14 +16,7 @@ pub windows-apart : windowBits long ≡ windowBits short → ⊥
 windows-apart e = omega arith
 
 module _ (lengthOf : Numbers → ℕ) (apart : lengthOf long ≡ lengthOf short → ⊥) where
-  -- no two formats have one length
-  one-format : (size : ℕ) (f g : Format) → size ≡ lengthOf (numbersOf f) → size ≡ lengthOf (numbersOf g) → f ≡ g
-  one-format size f g d e =
-      let as-f = fits-as lengthOf apart f size d in
-      let as-g = fits-as lengthOf apart g size e in
-      cc
-
-  -- so what is true of a format of that length is true of the format
+  -- no two formats have one length, so what is true of a format of that length is true of the format
   pub of-format : (size : ℕ) (format : Format) → size ≡ lengthOf (numbersOf format)
       → (P : Format → Type 0) → (f : Format) × (size ≡ lengthOf (numbersOf f)) × P f → P format
-  of-format size format e P (f, d, p) = subst P (one-format size f format d e) p
+  of-format size format e P (f, d, p) = subst P (one-format lengthOf apart size f format d e) p

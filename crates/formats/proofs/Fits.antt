@@ -37,7 +37,14 @@ module _ (lengthOf : Numbers → ℕ) (apart : lengthOf long ≡ lengthOf short 
       (ne-eqb size (lengthOf long) (λ f. apart (sym f ∙ e)))
       ∙ ap (λ (b : Bool). cond b (As Short) Nothing) (eq-eqb size (lengthOf short) e)
 
-  -- any other picks none
+  -- no two formats have one size
+  pub one-format : (size : ℕ) (f g : Format) → size ≡ lengthOf (numbersOf f) → size ≡ lengthOf (numbersOf g) → f ≡ g
+  one-format size f g d e =
+      let as-f = fits-as f size d in
+      let as-g = fits-as g size e in
+      cc
+
+  -- any other size picks none
   pub fits-none : (size : ℕ) → ((format : Format) → size ≡ lengthOf (numbersOf format) → ⊥) → fitOf (lengthOf long) (lengthOf short) size ≡ Nothing
   unfolding fitOf
   fits-none size h = rw (ne-eqb size (lengthOf long) (h Long), ne-eqb size (lengthOf short) (h Short))
