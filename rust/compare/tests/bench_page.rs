@@ -1,8 +1,9 @@
 //! The examples of docs/BENCH.md: each command of its console blocks is run at
-//! the repository's root, and writes what the page shows.
+//! the repository's root, and writes what the page shows. README.md's first
+//! command writes a telegram.
 
 use std::fs;
-use std::path::Path;
+use std::path::{Path, PathBuf};
 use std::process::Command;
 
 /// A command of a console block, and the lines shown below it.
@@ -11,19 +12,29 @@ struct Example {
     output: String,
 }
 
-/// The examples of a page: the lines after `$ ` in blocks marked `console`.
+fn root() -> PathBuf {
+    Path::new(env!("CARGO_MANIFEST_DIR")).join("../..")
+}
+
+/// The texts of a page's blocks that are marked so.
+fn blocks<'a>(page: &'a str, mark: &str) -> Vec<&'a str> {
+    let begin = format!("\n```{mark}\n");
+    page.split(&begin)
+        .skip(1)
+        .map(|rest| rest.split_once("\n```\n").expect("an end").0)
+        .collect()
+}
+
+/// The examples of a page: the lines after `$ ` in its console blocks.
 fn examples(page: &str) -> Vec<Example> {
     let mut examples: Vec<Example> = Vec::new();
-    let mut inside = false;
-    for line in page.lines() {
-        if line.starts_with("```") {
-            inside = line == "```console";
-        } else if let (true, Some(command)) = (inside, line.strip_prefix("$ ")) {
+    for line in blocks(page, "console").iter().flat_map(|block| block.lines()) {
+        if let Some(command) = line.strip_prefix("$ ") {
             examples.push(Example {
                 command: command.to_string(),
                 output: String::new(),
             });
-        } else if inside {
+        } else {
             let shown = &mut examples.last_mut().expect("a command first").output;
             shown.push_str(line);
             shown.push('\n');
@@ -32,23 +43,52 @@ fn examples(page: &str) -> Vec<Example> {
     examples
 }
 
+/// What a command writes to standard output, at the repository's root.
+fn written(command: &str) -> String {
+    let ran = Command::new("sh")
+        .args(["-c", command])
+        .current_dir(root())
+        .output()
+        .expect("sh");
+    String::from_utf8(ran.stdout).expect("text")
+}
+
+/// Whether the first word of a command names a program of this machine, the
+/// repository's or the shell's.
+fn can_run(command: &str) -> bool {
+    let word = command.split(' ').next().expect("a word");
+    !written(&format!("command -v {word}")).is_empty()
+}
+
+/// Commands with a C compiler or Python are run where there is one; what
+/// Python loads is made by the compiler.
 #[test]
 fn the_pages_examples_write_what_it_shows() {
-    let root = Path::new(env!("CARGO_MANIFEST_DIR")).join("../..");
-    let page = fs::read_to_string(root.join("docs/BENCH.md")).expect("docs/BENCH.md");
-    let examples = examples(&page);
-    assert!(examples.len() > 8);
-    for example in examples {
-        let ran = Command::new("sh")
-            .args(["-c", &example.command])
-            .current_dir(&root)
-            .output()
-            .expect("sh");
-        assert_eq!(
-            String::from_utf8_lossy(&ran.stdout),
-            example.output,
-            "{}",
-            example.command
-        );
+    let page = fs::read_to_string(root().join("docs/BENCH.md")).expect("docs/BENCH.md");
+    for program in blocks(&page, "python") {
+        let comment = program.strip_prefix("# ").expect("a comment first");
+        let (name, _) = comment.split_once(':').expect("a name");
+        fs::write(root().join(name), program).expect("a program");
     }
+    let examples = examples(&page);
+    assert!(examples.len() > 20);
+    let c = can_run("cc");
+    for Example { command, output } in examples {
+        let python = command.starts_with("python3 ");
+        if command.starts_with("cc ") && !c || python && !(c && can_run("python3")) {
+            println!("skipped: {command}");
+        } else {
+            assert_eq!(written(&command), output, "{command}");
+        }
+    }
+}
+
+#[test]
+fn the_readmes_first_command_writes_a_telegram() {
+    let page = fs::read_to_string(root().join("README.md")).expect("README.md");
+    let first = page.lines().nth(2).expect("a third line");
+    let command = first.split('`').nth(1).expect("a command");
+    assert!(command.starts_with("./balise encode "));
+    let answer = written(command);
+    assert_eq!(answer.lines().nth(3).expect("line four").len(), 1023);
 }

@@ -1,0 +1,205 @@
+//! What is written, and the exit status.
+
+use crate::scratch::{assert_answer, assert_no_answer, repository, stderr, stdout, tool, Scratch};
+use crate::{example, proper, BAD, PROPER};
+use std::fs;
+
+/// The four commands, each with an input that is accepted.
+fn accepted() -> [(&'static str, String); 4] {
+    [
+        ("encode", example("encode_block")),
+        ("check", proper()),
+        ("read", example("read_window")),
+        ("search", example("search_capture")),
+    ]
+}
+
+#[test]
+fn a_write_that_fails() {
+    let scratch = Scratch::built();
+    for (command, input) in accepted() {
+        scratch.write("input", &input);
+        for (options, output) in [("", "/dev/full"), ("", "&-"), ("--status", "/dev/full")] {
+            let ran = scratch.shell(&format!("./balise {command} {options} input >{output}"));
+            assert_no_answer(&ran, "balise: the answer could not be written");
+        }
+    }
+    let ran = scratch.shell("./balise encode --only input >/dev/full");
+    assert_eq!(ran.status.code(), Some(1), "a capture is no block");
+    for words in ["help", "--version"] {
+        let ran = scratch.shell(&format!("./balise {words} >/dev/full"));
+        assert_no_answer(&ran, "could not be written");
+    }
+}
+
+#[test]
+fn status() {
+    let scratch = Scratch::built();
+    for (command, input) in accepted() {
+        let refused: &[u8] = if command == "search" { b"0" } else { b"01" };
+        for (input, status) in [(input.as_bytes(), 0), (refused, 1), (b"2", 1)] {
+            let plain = scratch.balise(&[command], input);
+            let asked = scratch.balise(&[command, "--status"], input);
+            assert_answer(&asked, status, &stdout(&plain));
+            assert_eq!(plain.status.code(), Some(0));
+        }
+    }
+    let none = scratch.balise(&["search", "--status"], b"0");
+    assert_answer(&none, 1, "balise capture 1\nbits 1\nnone\n");
+}
+
+#[test]
+fn only_line_four() {
+    let scratch = Scratch::built();
+    for (command, input) in accepted() {
+        let whole = stdout(&scratch.balise(&[command], input.as_bytes()));
+        let ran = scratch.balise(&[command, "--only"], input.as_bytes());
+        if command == "check" {
+            assert_no_answer(&ran, "check has no line four");
+            continue;
+        }
+        let four = whole.lines().nth(3).expect("line four");
+        assert_answer(&ran, 0, &format!("{four}\n"));
+        for (input, words) in [("01x", "bad\n"), ("01", "")] {
+            let ran = scratch.balise(&[command, "--only"], input.as_bytes());
+            assert_answer(&ran, 1, "");
+            assert!(stderr(&ran).contains(words), "{ran:?}");
+        }
+    }
+    let ran = scratch.balise(&["read", "--only"], b"01");
+    assert_eq!(stderr(&ran), "balise: standard input: refused 1\n");
+    let ran = scratch.balise(&["read", "--only", "one", "two"], b"");
+    assert_no_answer(&ran, "one file at a time");
+}
+
+#[test]
+fn what_is_wrong_with_a_bad_input() {
+    let scratch = Scratch::built();
+    let more = |count: usize| "0".repeat(count + 1);
+    for (command, limit) in [("encode", 830), ("check", 1023), ("read", 1100), ("search", 7500)] {
+        let ran = scratch.balise(&[command], more(limit).as_bytes());
+        assert!(stdout(&ran).ends_with("\nbad\n"));
+        let words = format!("balise: standard input: more than {limit} bits\n");
+        assert_eq!(stderr(&ran), words);
+    }
+    scratch.write("file", "0\r\n1\n\u{e9}");
+    let ran = scratch.balise(&["check", "file"], b"");
+    assert_answer(&ran, 0, BAD);
+    assert_eq!(stderr(&ran), "balise: file: character 195 at byte 6\n");
+}
+
+/// The columns "what it means" and "what to do" of the page, by number.
+fn meanings() -> Vec<(usize, String, String)> {
+    let page = fs::read_to_string(repository().join("docs/BENCH.md")).expect("the page");
+    let rows = page.lines().filter_map(|line| {
+        let cells: Vec<&str> = line.strip_prefix("| ")?.strip_suffix(" |")?.split(" | ").collect();
+        let number = cells[0].parse().ok()?;
+        let plain = |text: &str| text.replace('`', "");
+        Some((number, plain(cells[2]), plain(cells[3])))
+    });
+    rows.collect()
+}
+
+#[test]
+fn what_a_refusal_means() {
+    let meanings = meanings();
+    assert_eq!(meanings.iter().map(|row| row.0).collect::<Vec<_>>(), (1..=13).collect::<Vec<_>>());
+    let scratch = Scratch::built();
+    scratch.write("file", "01");
+    // not where standard error is no terminal
+    assert_eq!(stderr(&scratch.balise(&["check", "file"], b"")), "");
+    let Some(script) = tool("script") else {
+        println!("skipped: there is no command script");
+        return;
+    };
+    for (command, result, number) in [("read", "refused 1", 1), ("search", "none", 13)] {
+        let (_, means, advice) = &meanings[number - 1];
+        let line = format!("./balise {command} file >answer");
+        let ran = scratch.shell(&format!("{} -qec '{line}' /dev/null </dev/null", script.display()));
+        let said = stdout(&ran).replace('\r', "");
+        assert_eq!(said, format!("balise: file: {result}: {means}. What to do: {advice}\n"));
+        let answer = fs::read_to_string(scratch.path("answer")).expect("an answer");
+        assert!(answer.ends_with(&format!("{result}\n")));
+    }
+}
+
+/// Every refusal has its words, also one with further facts on its line.
+#[test]
+fn each_refusal_has_its_words() {
+    let scratch = Scratch::new();
+    let Some(script) = tool("script") else {
+        println!("skipped: there is no command script");
+        return;
+    };
+    for (number, means, advice) in meanings() {
+        scratch.program(
+            "check_telegram",
+            &format!("printf 'balise check 1\\nbits 1\\nrefused {number} tried 5\\n'"),
+        );
+        let line = format!("rm -f target/bin/*; ./balise check docs/BENCH.md 2>&1 >answer | tail -n 1");
+        let ran = scratch.shell(&line);
+        assert!(ran.status.success());
+        let line = "./balise check docs/BENCH.md >answer";
+        let ran = scratch.shell(&format!("{} -qec '{line}' /dev/null </dev/null", script.display()));
+        let words = format!("refused {number} tried 5: {means}. What to do: {advice}\n");
+        assert!(stdout(&ran).replace('\r', "").ends_with(&words), "{ran:?}");
+    }
+}
+
+/// A program that fails, or whose answer is not whole, is not passed on.
+#[test]
+fn no_whole_answer() {
+    for (program, words) in [
+        ("exit 3", "status 3"),
+        ("printf 'balise check 1\\nbits 1023\\nlong proper\\n'; kill -9 $$", "status 137"),
+        ("printf 'balise check 1\\nbits 1023\\nlong proper'", "status 0"),
+        ("printf 'balise check 1\\nbits 1023\\n'", "status 0"),
+        ("printf 'balise check 1\\n'", "status 0"),
+        ("printf '\\n'", "status 0"),
+        ("printf 'balise read 1\\nbits 1023\\nlong proper\\n'", "status 0"),
+        ("printf 'balise check 1\\nbits 1023\\nlong\\n'", "status 0"),
+        ("printf 'balise check 1\\nbits 1023\\nlong proper\\n01\\n'", "status 0"),
+        ("echo words >&2; exit 1", "and said: words"),
+    ] {
+        let scratch = Scratch::new();
+        scratch.program("check_telegram", program);
+        let ran = scratch.balise(&["check"], b"");
+        assert_no_answer(&ran, "check_telegram gave no answer");
+        assert!(stderr(&ran).contains(words), "{ran:?}");
+    }
+    let scratch = Scratch::new();
+    scratch.program("encode_block", "printf 'balise encode 1\\nbits 210\\nshort sb 1 esb 2 tried 3\\n'");
+    let ran = scratch.balise(&["encode", "--only"], b"");
+    assert_no_answer(&ran, "encode_block gave no answer");
+}
+
+#[test]
+fn usage() {
+    let scratch = Scratch::new();
+    for words in [&["help"][..], &["--help"], &["check", "-h"]] {
+        let ran = scratch.balise(words, b"");
+        assert_eq!(ran.status.code(), Some(0));
+        assert!(stdout(&ran).starts_with("usage: balise COMMAND"));
+    }
+    assert_no_answer(&scratch.balise(&[], b""), "usage: balise");
+    assert_no_answer(&scratch.balise(&["burn"], b""), "no command 'burn'");
+    assert_no_answer(&scratch.balise(&["check", "--fast"], b""), "no option '--fast'");
+    assert_no_answer(&scratch.balise(&["build", "file"], b""), "build takes no file");
+    assert!(scratch.proved().is_empty());
+}
+
+#[test]
+fn version() {
+    let scratch = Scratch::new();
+    let before = stdout(&scratch.balise_alone(&["--version"], b""));
+    assert!(before.starts_with("balise 1\nsource "));
+    assert!(before.ends_with("search_capture: not built\n"));
+    assert_answer(&scratch.balise(&["check"], proper().as_bytes()), 0, PROPER);
+    let after = stdout(&scratch.balise_alone(&["--version"], b""));
+    assert!(after.contains("\ncheck_telegram: kit of the tests\n"));
+    assert_eq!(after.lines().nth(1), before.lines().nth(1));
+    scratch.write("crates/texts/src/file.rt", "changed");
+    let changed = stdout(&scratch.balise_alone(&["--version"], b""));
+    assert_ne!(changed.lines().nth(1), before.lines().nth(1));
+    assert!(changed.contains("\ncheck_telegram: not built\n"));
+}

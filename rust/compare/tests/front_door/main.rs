@@ -1,0 +1,24 @@
+//! The script `balise`: which input it answers for, its exit status and what it
+//! writes, and when it builds. The programs that it runs are the real ones; the
+//! toolchain is one of the tests' own, so that a build takes no time.
+
+mod answers;
+mod builds;
+mod inputs;
+mod scratch;
+
+use std::fs;
+
+/// A telegram fit to burn, as a text.
+fn proper() -> String {
+    example("check_telegram")
+}
+
+/// What a program is run on by the toolchain.
+fn example(program: &str) -> String {
+    let path = scratch::repository().join("crates").join(program);
+    fs::read_to_string(path.join("stdin")).expect(program)
+}
+
+const PROPER: &str = "balise check 1\nbits 1023\nlong proper\n";
+const BAD: &str = "balise check 1\nbad\n";

@@ -1,0 +1,230 @@
+//! A folder with the script `balise`, small crates in place of the real ones,
+//! and a toolchain that proves nothing: its `rt` puts the programs of the
+//! repository's `target/bin` in their places.
+
+use std::fs;
+use std::os::unix::fs::{symlink, PermissionsExt};
+use std::path::{Path, PathBuf};
+use std::process::{Command, Output, Stdio};
+use std::sync::atomic::{AtomicUsize, Ordering};
+use std::{env, io::Write, process};
+
+pub const PROGRAMS: [&str; 4] = [
+    "encode_block",
+    "check_telegram",
+    "read_window",
+    "search_capture",
+];
+
+/// What the script calls.
+const TOOLS: [&str; 21] = [
+    "awk",
+    "bash",
+    "cat",
+    "cut",
+    "env",
+    "find",
+    "flock",
+    "grep",
+    "mkdir",
+    "paste",
+    "readlink",
+    "rm",
+    "sed",
+    "sh",
+    "sha256sum",
+    "sleep",
+    "sort",
+    "tr",
+    "uniq",
+    "wc",
+    "xargs",
+];
+
+/// `rt` of the scratch folder. A file `hook` beside it is run at each check.
+const RT: &str = r#"#!/bin/sh
+PATH=$PATH:/usr/bin:/bin
+here=$(cd "$(dirname "$0")" && pwd)
+case $1 in
+    version) echo "kit of the tests" ;;
+    check)
+        shift
+        mkdir -p target/bin
+        for name in "$@"; do
+            echo "$name" >>"$here/proved"
+            [ ! -f "$here/hook" ] || . "$here/hook"
+            [ ! -f "$here/programs/$name" ] || cp "$here/programs/$name" "target/bin/$name"
+            echo "rt: $name proved (0 s)"
+        done
+        ;;
+esac
+"#;
+
+/// The repository's root.
+pub fn repository() -> PathBuf {
+    Path::new(env!("CARGO_MANIFEST_DIR")).join("../..")
+}
+
+/// The path of a command, if there is one.
+pub fn tool(name: &str) -> Option<PathBuf> {
+    env::split_paths(&env::var_os("PATH")?)
+        .map(|folder| folder.join(name))
+        .find(|path| path.is_file())
+}
+
+fn executable(path: &Path, text: &str) {
+    fs::write(path, text).expect("a script");
+    fs::set_permissions(path, fs::Permissions::from_mode(0o755)).expect("its mode");
+}
+
+pub struct Scratch {
+    pub root: PathBuf,
+}
+
+impl Scratch {
+    /// A folder in which nothing is built.
+    pub fn new() -> Scratch {
+        static COUNT: AtomicUsize = AtomicUsize::new(0);
+        let count = COUNT.fetch_add(1, Ordering::Relaxed);
+        let name = format!("balise-front-door-{}-{count}", process::id());
+        let scratch = Scratch {
+            root: env::temp_dir().join(name),
+        };
+        let root = &scratch.root;
+        for folder in ["docs", "tools", "kit/programs"] {
+            fs::create_dir_all(root.join(folder)).expect("a folder");
+        }
+        fs::set_permissions(root, fs::Permissions::from_mode(0o755)).expect("its mode");
+        for file in ["balise", "docs/BENCH.md"] {
+            fs::copy(repository().join(file), root.join(file)).expect(file);
+        }
+        let mut crates = String::from("texts: io libc # characters\n");
+        for name in PROGRAMS {
+            crates += &format!("{name}: texts\n");
+        }
+        scratch.write("crates.txt", &crates);
+        for name in ["texts"].iter().chain(&PROGRAMS) {
+            scratch.write(&format!("crates/{name}/src/file.rt"), name);
+            scratch.write(&format!("crates/{name}/stdin"), "");
+        }
+        for name in TOOLS {
+            let tool = tool(name).unwrap_or_else(|| panic!("there is no {name}"));
+            symlink(tool, root.join("tools").join(name)).expect("a link");
+        }
+        for name in PROGRAMS {
+            let program = repository().join("target/bin").join(name);
+            fs::copy(program, root.join("kit/programs").join(name)).expect(name);
+        }
+        executable(&root.join("kit/rt"), RT);
+        scratch
+    }
+
+    /// A folder in which the four programs are built.
+    pub fn built() -> Scratch {
+        let scratch = Scratch::new();
+        let ran = scratch.balise(&["build"], b"");
+        assert_eq!(ran.status.code(), Some(0), "{ran:?}");
+        scratch
+    }
+
+    pub fn path(&self, name: &str) -> PathBuf {
+        self.root.join(name)
+    }
+
+    pub fn write(&self, name: &str, text: &str) {
+        let path = self.path(name);
+        fs::create_dir_all(path.parent().expect("a folder")).expect("a folder");
+        fs::write(path, text).expect(name);
+    }
+
+    /// What `rt` does at each check of a crate `$name`, in the shell.
+    pub fn hook(&self, text: &str) {
+        self.write("kit/hook", text);
+    }
+
+    /// A program of the kit, as a shell script.
+    pub fn program(&self, name: &str, text: &str) {
+        executable(
+            &self.path("kit/programs").join(name),
+            &format!("#!/bin/sh\n{text}\n"),
+        );
+    }
+
+    /// The crates that `rt` was asked to check, in order.
+    pub fn proved(&self) -> Vec<String> {
+        let list = fs::read_to_string(self.path("kit/proved")).unwrap_or_default();
+        list.lines().map(String::from).collect()
+    }
+
+    /// A command in this folder, with the toolchain or without.
+    pub fn command(&self, program: &str, toolchain: bool) -> Command {
+        let mut path = self.path("tools").into_os_string();
+        if toolchain {
+            path.push(":");
+            path.push(self.path("kit"));
+        }
+        let mut command = Command::new(program);
+        command.current_dir(&self.root).env("PATH", path);
+        command
+    }
+
+    /// `./balise` with this standard input.
+    pub fn balise(&self, arguments: &[&str], input: &[u8]) -> Output {
+        self.ran(self.command("./balise", true).args(arguments), input)
+    }
+
+    /// `./balise` with this standard input where there is no toolchain.
+    pub fn balise_alone(&self, arguments: &[&str], input: &[u8]) -> Output {
+        self.ran(self.command("./balise", false).args(arguments), input)
+    }
+
+    /// A line of the shell in this folder, with the commands of the machine.
+    pub fn shell(&self, line: &str) -> Output {
+        let mut path = self.path("kit").into_os_string();
+        path.push(":");
+        path.push(env::var_os("PATH").expect("a path"));
+        let mut command = Command::new("bash");
+        command.args(["-c", line]).current_dir(&self.root);
+        self.ran(command.env("PATH", path), b"")
+    }
+
+    pub fn ran(&self, command: &mut Command, input: &[u8]) -> Output {
+        let mut child = command
+            .stdin(Stdio::piped())
+            .stdout(Stdio::piped())
+            .stderr(Stdio::piped())
+            .spawn()
+            .expect("the command starts");
+        // what reads no standard input may be gone before all is written
+        let _ = child.stdin.take().expect("a pipe").write_all(input);
+        child.wait_with_output().expect("an output")
+    }
+}
+
+impl Drop for Scratch {
+    fn drop(&mut self) {
+        let _ = fs::remove_dir_all(&self.root);
+    }
+}
+
+pub fn stdout(ran: &Output) -> String {
+    String::from_utf8(ran.stdout.clone()).expect("text")
+}
+
+pub fn stderr(ran: &Output) -> String {
+    String::from_utf8(ran.stderr.clone()).expect("text")
+}
+
+/// Nothing was answered: status 2, nothing on standard output, and these words
+/// on standard error.
+pub fn assert_no_answer(ran: &Output, words: &str) {
+    assert_eq!(ran.status.code(), Some(2), "{ran:?}");
+    assert_eq!(stdout(ran), "", "{ran:?}");
+    assert!(stderr(ran).contains(words), "{ran:?}");
+}
+
+/// This status and this whole answer.
+pub fn assert_answer(ran: &Output, status: i32, answer: &str) {
+    assert_eq!(stdout(ran), answer, "{ran:?}");
+    assert_eq!(ran.status.code(), Some(status), "{ran:?}");
+}
