@@ -1,3 +1,4 @@
+pub mod FirstFault
 pub mod SomeText
 pub mod Taken
 pub mod TextOfBits

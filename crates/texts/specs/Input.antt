@@ -16,6 +16,6 @@ OfSomeText o count old = (text : List ℕ) × (o ≡ takenInto old count text)
 
 -- the progress after one read that began with count bits
 abbrev pub progressAfter : ℕ → OneRead → Progress
-progressAfter count (More n) = Count n
+progressAfter count (More n seen) = Count n
 progressAfter count End = Count count
 progressAfter count Bad = Bad-text

@@ -1,60 +1,118 @@
 //! The four programs against the second program, on the same standard input:
-//! whole outputs, line by line the same. Both are built before the tests run.
+//! all that they write, to standard output and to standard error, is the same.
+//! Both are built before the tests run.
 
 use compare::telegrams::telegram_of;
 use second::bits::text;
 use second::format::FORMATS;
 use second::random::Random;
 use second::telegram::cut;
+use std::fs::File;
 use std::io::Write;
 use std::path::{Path, PathBuf};
 use std::process::{Command, Stdio};
 
-/// A program, and the word by which the second program does the same.
-const PROGRAMS: [(&str, &str); 4] = [
-    ("encode_block", "encode"),
-    ("check_telegram", "check"),
-    ("read_window", "read"),
-    ("search_capture", "capture"),
+/// A program, the word by which the second program does the same, and how many
+/// bits it takes.
+const PROGRAMS: [(&str, &str, usize); 4] = [
+    ("encode_block", "encode", 830),
+    ("check_telegram", "check", 1023),
+    ("read_window", "read", 1100),
+    ("search_capture", "capture", 7500),
 ];
 
 fn root() -> PathBuf {
     Path::new(env!("CARGO_MANIFEST_DIR")).join("../..")
 }
 
-/// What a program writes on this input.
-fn run(program: &Path, argument: Option<&str>, input: &[u8]) -> String {
-    let mut child = Command::new(program)
-        .args(argument)
-        .stdin(Stdio::piped())
-        .stdout(Stdio::piped())
-        .spawn()
-        .unwrap_or_else(|error| panic!("{}: {error}", program.display()));
-    // a program that has read enough may be gone before all is written
-    let _ = child.stdin.take().expect("a pipe").write_all(input);
-    let output = child.wait_with_output().expect("an output");
-    String::from_utf8(output.stdout).expect("text")
+/// What a program writes, to standard output and to standard error.
+#[derive(Debug, PartialEq)]
+struct Written {
+    output: String,
+    error: String,
 }
 
-/// What both programs write on this input.
-fn agreed(kind: &str, input: &[u8]) -> String {
-    let (program, _) = PROGRAMS
+/// What a program writes that gets its input from here, or from a pipe with
+/// these bytes.
+fn run(program: &Path, argument: Option<&str>, from: Stdio, input: &[u8]) -> Written {
+    let mut child = Command::new(program)
+        .args(argument)
+        .stdin(from)
+        .stdout(Stdio::piped())
+        .stderr(Stdio::piped())
+        .spawn()
+        .unwrap_or_else(|error| panic!("{}: {error}", program.display()));
+    if let Some(mut pipe) = child.stdin.take() {
+        // a program that has read enough may be gone before all is written
+        let _ = pipe.write_all(input);
+    }
+    let output = child.wait_with_output().expect("an output");
+    Written {
+        output: String::from_utf8(output.stdout).expect("text"),
+        error: String::from_utf8(output.stderr).expect("text"),
+    }
+}
+
+/// What both programs write, each with its input from such a place; on
+/// standard error one line for a bad text, and else nothing.
+fn agreed_from(kind: &str, from: impl Fn() -> Stdio, input: &[u8]) -> Written {
+    let (program, _, _) = PROGRAMS
         .iter()
-        .find(|(_, word)| *word == kind)
+        .find(|(_, word, _)| *word == kind)
         .expect("a kind");
-    let ours = run(&root().join("target/bin").join(program), None, input);
+    let ours = run(
+        &root().join("target/bin").join(program),
+        None,
+        from(),
+        input,
+    );
     let second = run(
         &root().join("rust/target/release/second"),
         Some(kind),
+        from(),
         input,
     );
     assert_eq!(ours, second, "{kind}");
+    let bad = ours.output.ends_with("bad\n");
+    assert_eq!(ours.error.lines().count(), usize::from(bad), "{kind}");
     ours
+}
+
+/// What both programs write to standard output on this input.
+fn agreed(kind: &str, input: &[u8]) -> String {
+    agreed_from(kind, Stdio::piped, input).output
+}
+
+/// The line that both programs write to standard error on this bad text.
+fn complaint(kind: &str, input: &[u8]) -> String {
+    let written = agreed_from(kind, Stdio::piped, input);
+    assert!(written.output.ends_with("bad\n"), "{kind}");
+    written.error
+}
+
+/// A text of so many bits, with so many line ends among them.
+fn with_line_ends(random: &mut Random, bits: usize, ends: usize) -> Vec<u8> {
+    let mut input = text(&random.bits(bits)).into_bytes();
+    for _ in 0..ends {
+        let place = random.below(input.len() + 1);
+        input.insert(place, [10, 13][random.below(2)]);
+    }
+    input
+}
+
+/// A byte that is neither a bit nor a line end.
+fn other(random: &mut Random) -> u8 {
+    loop {
+        let byte = random.below(256) as u8;
+        if ![10, 13, b'0', b'1'].contains(&byte) {
+            return byte;
+        }
+    }
 }
 
 #[test]
 fn bad_texts_and_lengths() {
-    for (_, kind) in PROGRAMS {
+    for (_, kind, limit) in PROGRAMS {
         for length in [
             0, 1, 209, 210, 211, 340, 342, 461, 463, 829, 831, 1022, 1024, 1099, 1101,
         ] {
@@ -63,6 +121,65 @@ fn bad_texts_and_lengths() {
         for input in ["01\r\n10\n", "2", "01 ", "0\t1", "\n\n\n", "01\u{e9}"] {
             agreed(kind, input.as_bytes());
         }
+        let full = text(&vec![0; limit]);
+        let more = format!("balise: more than {limit} bits\n");
+        for end in ["0", "1x", "\n1", "\r\n\n0x"] {
+            assert_eq!(complaint(kind, format!("{full}{end}").as_bytes()), more);
+        }
+        for (end, byte, place) in [("x", 120, 1), ("x1", 120, 1), ("\n\01x", 0, 2)] {
+            assert_eq!(
+                complaint(kind, format!("{full}{end}").as_bytes()),
+                format!("balise: character {byte} at byte {}\n", limit + place)
+            );
+        }
+    }
+}
+
+#[test]
+fn faults_of_long_texts() {
+    let mut random = Random::new(34);
+    for (_, kind, limit) in PROGRAMS {
+        for round in 0..12 {
+            let ends = 4096 + random.below(9000);
+            let good = with_line_ends(&mut random, limit, ends);
+            let mut input = good.clone();
+            for _ in 0..=round % 2 {
+                let place = random.below(input.len() + 1);
+                input.insert(place, other(&mut random));
+            }
+            assert!(complaint(kind, &input).contains(" at byte "));
+            // one bit too many, before or after the other characters
+            let place = random.below(input.len() + 1);
+            input.insert(place, b'1');
+            complaint(kind, &input);
+            let mut input = good;
+            let place = random.below(input.len() + 1);
+            input.insert(place, b'0');
+            assert!(complaint(kind, &input).contains(" more than "));
+            input.push(other(&mut random));
+            assert!(complaint(kind, &input).contains(" more than "));
+        }
+        // the place of a byte that many reads come before
+        let mut input = vec![10; 100_000];
+        input.push(b'2');
+        assert_eq!(
+            complaint(kind, &input),
+            "balise: character 50 at byte 100001\n"
+        );
+    }
+}
+
+#[test]
+fn a_read_that_fails() {
+    for (_, kind, _) in PROGRAMS {
+        let folder = || Stdio::from(File::open(root()).expect("a folder"));
+        assert_eq!(
+            agreed_from(kind, folder, b""),
+            Written {
+                output: format!("balise {kind} 1\nbad\n"),
+                error: String::from("balise: the input cannot be read\n"),
+            }
+        );
     }
 }
 

@@ -74,3 +74,26 @@ pub fn of_text(text: &[u8]) -> Option<Vec<u8>> {
         })
         .collect()
 }
+
+/// What makes a text bad.
+#[derive(Clone, Copy, Debug, PartialEq, Eq)]
+pub enum Fault {
+    /// A byte that is neither a bit nor a line end, and its place, counted from 1.
+    Character { byte: u8, place: usize },
+    /// A bit more than the limit.
+    Limit,
+}
+
+/// The first fault of a text that may spell at most `limit` bits.
+pub fn first_fault(text: &[u8], limit: usize) -> Option<Fault> {
+    let mut bits = 0;
+    for (byte, place) in text.iter().copied().zip(1..) {
+        match byte {
+            10 | 13 => {}
+            b'0' | b'1' if bits < limit => bits += 1,
+            b'0' | b'1' => return Some(Fault::Limit),
+            _ => return Some(Fault::Character { byte, place }),
+        }
+    }
+    None
+}

@@ -1,8 +1,9 @@
 //! The second program on standard input: `second encode`, `check`, `read` or
 //! `capture`. It reads characters 0 and 1, skipping bytes 10 and 13, and
-//! writes what the main programs write (document 01, the capture program).
+//! writes what the main programs write (document 01, the capture program); of
+//! a bad text a line on standard error says what is wrong.
 
-use second::bits::{of_text, text};
+use second::bits::{first_fault, of_text, text, Fault};
 use second::format::Format;
 use second::{check, encode, read, search, Reading, CAPTURE_LIMIT};
 use std::io::{self, Read, Write};
@@ -21,10 +22,19 @@ fn main() -> io::Result<()> {
         }
     };
     let mut input = Vec::new();
-    io::stdin().read_to_end(&mut input)?;
+    let read = io::stdin().read_to_end(&mut input);
+    let wrong = match (first_fault(&input, limit), read) {
+        (Some(Fault::Character { byte, place }), _) => format!("character {byte} at byte {place}"),
+        (Some(Fault::Limit), _) => format!("more than {limit} bits"),
+        (None, Err(_)) => String::from("the input cannot be read"),
+        (None, Ok(_)) => String::new(),
+    };
     let lines = match of_text(&input) {
-        Some(bits) if bits.len() <= limit => format!("bits {}\n{}", bits.len(), answer(&bits)),
-        _ => String::from("bad\n"),
+        Some(bits) if wrong.is_empty() => format!("bits {}\n{}", bits.len(), answer(&bits)),
+        _ => {
+            eprintln!("balise: {wrong}");
+            String::from("bad\n")
+        }
     };
     io::stdout().write_all(format!("balise {kind} 1\n{lines}").as_bytes())
 }

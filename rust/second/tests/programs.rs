@@ -7,17 +7,27 @@ use second::bits::text;
 use second::telegram::cut;
 use second::{encode_skipping, Format};
 
-fn run(kind: &str, input: &str) -> String {
+/// What the program writes to standard output and to standard error.
+fn written(kind: &str, input: &str) -> [String; 2] {
     let mut child = Command::new(env!("CARGO_BIN_EXE_second"))
         .arg(kind)
         .stdin(Stdio::piped())
         .stdout(Stdio::piped())
+        .stderr(Stdio::piped())
         .spawn()
         .unwrap();
     let mut stdin = child.stdin.take().unwrap();
     stdin.write_all(input.as_bytes()).unwrap();
     drop(stdin);
-    String::from_utf8(child.wait_with_output().unwrap().stdout).unwrap()
+    let output = child.wait_with_output().unwrap();
+    [output.stdout, output.stderr].map(|bytes| String::from_utf8(bytes).unwrap())
+}
+
+/// What the program writes to standard output on a good text.
+fn run(kind: &str, input: &str) -> String {
+    let [output, error] = written(kind, input);
+    assert_eq!(error, "");
+    output
 }
 
 #[test]
@@ -30,16 +40,28 @@ fn capture_of_zeros() {
 
 #[test]
 fn bad_input() {
-    assert_eq!(run("capture", "0 1"), "balise capture 1\nbad\n");
     for (kind, limit) in [
         ("encode", 830),
         ("check", 1023),
         ("read", 1100),
         ("capture", 7500),
     ] {
-        let bad = format!("balise {kind} 1\nbad\n");
-        assert_eq!(run(kind, &"0".repeat(limit + 1)), bad);
-        assert_ne!(run(kind, &"0".repeat(limit)), bad);
+        let full = "0".repeat(limit);
+        let other = String::from("balise: character 32 at byte 2\n");
+        let more = format!("balise: more than {limit} bits\n");
+        for (input, line) in [
+            ("0 1", other),
+            (&format!("{full}1 "), more.clone()),
+            (&format!("{full}\r\n1"), more),
+            (
+                &format!("{full}\n\u{7f}1"),
+                format!("balise: character 127 at byte {}\n", limit + 2),
+            ),
+        ] {
+            let bad = format!("balise {kind} 1\nbad\n");
+            assert_eq!(written(kind, input), [bad, line]);
+        }
+        run(kind, &full);
     }
 }
 

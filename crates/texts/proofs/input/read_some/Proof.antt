@@ -4,6 +4,7 @@ use borrow.Author.Needs.{needs}
 use Rattle.formats.specs.Outcome.{outcome}
 use Rattle.texts.specs.declared.reading.Progress.{Progress}
 use Rattle.texts.proofs.SomeText.{some-none, some-failed}
+use Rattle.texts.proofs.FirstFault.{fault-in-part}
 use Rattle.texts.proofs.input.read_some.Statement.{statement}
 use Rattle.texts.proofs.input.read_some.Tie as tie
 
@@ -16,9 +17,12 @@ slice-aggregate-read c = search needs
 read-requires : tie.Need-read-requires
 read-requires c κs = search needs
 
+print-unread-requires : tie.Need-print-unread-requires
+print-unread-requires c κs = search needs
+
 returns : tie.Need-returns
 returns c =
-    let s = c .before .before .before .before .before .before in
+    let s = c .before .before .before .before .before .before .before in
     let b = s .args .bits .now in
     some-failed (s .args .count) (s .args .count) b b (some-none (s .args .count) b (s .pre))
 
@@ -48,21 +52,37 @@ enum-known-more c = search needs
 enum-told : tie.Need-enum-told
 enum-told c = search needs
 
+array-share-prefix-chunk-2 : tie.Need-array-share-prefix-chunk-2
+array-share-prefix-chunk-2 c = search needs
+
+slice-aggregate-print-fault : tie.Need-slice-aggregate-print-fault
+slice-aggregate-print-fault c = search needs
+
+print-fault-requires : tie.Need-print-fault-requires
+print-fault-requires c κs =
+    let t = c .before .before .before .before .before in
+    let s = t .before .before .before .before .before .before .before .before .before .before .before .before in
+    fault-in-part (s .args .bits .now) (s .args .count) _ (t .take-text .last .1 .0) (s .pre) (t .take-text .kept .1 .0)
+    (ap (λ (r : Progress). outcome r (t .take-text .last .1 .0)) (sym (c .before .enum-told .given .1)) ∙ t .take-text .ensures)
+
 same-length : tie.Need-same-length
 same-length c = search needs
 
 returns-3 : tie.Need-returns-3
 returns-3 c =
-    let t = c .before .before .before .before .take-text in
-    (_, ap (λ (r : Progress). outcome r (t .last .1 .0)) (sym (c .enum-told .given .1)) ∙ t .ensures)
+    let t = c .before .before .before .before .before .before .take-text in
+    (_, ap (λ (r : Progress). outcome r (t .last .1 .0)) (sym (c .before .before .enum-told .given .1)) ∙ t .ensures)
+
+plus-requires : tie.Need-plus-requires
+plus-requires c κs = search needs
 
 same-length-2 : tie.Need-same-length-2
 same-length-2 c = search needs
 
 returns-4 : tie.Need-returns-4
 returns-4 c =
-    let t = c .before .before .before .before .before .take-text in
-    (_, ap (λ (r : Progress). outcome r (t .last .1 .0)) (sym (c .before .more .given .1)) ∙ t .ensures)
+    let t = c .before .before .before .before .before .before .take-text in
+    (_, ap (λ (r : Progress). outcome r (t .last .1 .0)) (sym (c .before .before .more .given .1)) ∙ t .ensures)
 
 pub read-some-spec : {M : Type 1} → statement M
 read-some-spec =
@@ -71,6 +91,7 @@ read-some-spec =
     buffer-requires
     slice-aggregate-read
     read-requires
+    print-unread-requires
     returns
     returns-2
     slice-aggregate-count
@@ -80,7 +101,11 @@ read-some-spec =
     take-text-requires
     enum-known-more
     enum-told
+    array-share-prefix-chunk-2
+    slice-aggregate-print-fault
+    print-fault-requires
     same-length
     returns-3
+    plus-requires
     same-length-2
     returns-4)

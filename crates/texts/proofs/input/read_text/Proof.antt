@@ -17,10 +17,10 @@ use Rattle.texts.proofs.input.read_text.Statement.{statement}
 use Rattle.texts.proofs.input.read_text.Tie as tie
 
 abbrev Inv-loop : tie.InvT-loop
-Inv-loop bits₀ count₀ reads₀ bits count reads = (length bits ≡ length bits₀) × OfSomeText (outcome (Count count) bits) 0 bits₀
+Inv-loop bits₀ count₀ seen₀ reads₀ bits count seen reads = (length bits ≡ length bits₀) × OfSomeText (outcome (Count count) bits) 0 bits₀
 
 abbrev μ-loop : tie.MeasureT-loop
-μ-loop bits₀ count₀ reads₀ bits count reads = reads
+μ-loop bits₀ count₀ seen₀ reads₀ bits count seen reads = reads
 
 -- one read more
 module _ (old buffer new : List ℕ) (n : ℕ) (same : length buffer ≡ length old) (w : OfSomeText (outcome (Count n) buffer) 0 old) where
@@ -80,15 +80,18 @@ loop-again c =
     let l = t .before .before .before in (
       t .read-some .kept .0 ∙ l .loop .inv .0,
       one-read (l .before .before .args .bits .now) (l .loop .bits) (t .read-some .last .0) (l .loop .count) (l .loop .inv .0) (l .loop .inv .1) (t .read-some .result)
-          (More (c .before .got .given .0 .0)) (t .read-some .ensures) (c .before .got .given .1),
+          (More (c .before .got .given .0 .0) (c .before .got .given .0 .1 .0)) (t .read-some .ensures) (c .before .got .given .1),
     )
 
+print-unread-requires : tie.Need-print-unread-requires Inv-loop μ-loop
+print-unread-requires c κs = search needs
+
 same-length-3 : tie.Need-same-length-3 Inv-loop μ-loop
-same-length-3 c = c .before .loop .inv .0
+same-length-3 c = c .before .before .loop .inv .0
 
 returns-3 : tie.Need-returns-3 Inv-loop μ-loop
 returns-3 c =
-    let l = c .before in
+    let l = c .before .before in
     some-failed 0 (l .loop .count) (l .loop .bits) (l .before .before .args .bits .now) (l .loop .inv .1)
 
 pub read-text-spec : {M : Type 1} → statement M
@@ -109,5 +112,6 @@ read-text-spec =
     sub-reads
     loop-less
     loop-again
+    print-unread-requires
     same-length-3
     returns-3)
