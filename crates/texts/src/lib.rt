@@ -3,7 +3,7 @@
 ghost use mathlib.Core.Path.{_≡_};
 ghost use lib.ListN.{take};
 
-pub mod faults;
+mod faults;
 pub mod input;
 pub mod output;
 pub mod reading;

@@ -28,7 +28,10 @@ fn blocks<'a>(page: &'a str, mark: &str) -> Vec<&'a str> {
 /// The examples of a page: the lines after `$ ` in its console blocks.
 fn examples(page: &str) -> Vec<Example> {
     let mut examples: Vec<Example> = Vec::new();
-    for line in blocks(page, "console").iter().flat_map(|block| block.lines()) {
+    for line in blocks(page, "console")
+        .iter()
+        .flat_map(|block| block.lines())
+    {
         if let Some(command) = line.strip_prefix("$ ") {
             examples.push(Example {
                 command: command.to_string(),

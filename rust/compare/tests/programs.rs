@@ -126,7 +126,7 @@ fn bad_texts_and_lengths() {
         for end in ["0", "1x", "\n1", "\r\n\n0x"] {
             assert_eq!(complaint(kind, format!("{full}{end}").as_bytes()), more);
         }
-        for (end, byte, place) in [("x", 120, 1), ("x1", 120, 1), ("\n\01x", 0, 2)] {
+        for (end, byte, place) in [("x", 120, 1), ("x1", 120, 1), ("\n\0x", 0, 2)] {
             assert_eq!(
                 complaint(kind, format!("{full}{end}").as_bytes()),
                 format!("balise: character {byte} at byte {}\n", limit + place)

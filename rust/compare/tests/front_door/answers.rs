@@ -76,7 +76,12 @@ fn only_line_four() {
 fn what_is_wrong_with_a_bad_input() {
     let scratch = Scratch::built();
     let more = |count: usize| "0".repeat(count + 1);
-    for (command, limit) in [("encode", 830), ("check", 1023), ("read", 1100), ("search", 7500)] {
+    for (command, limit) in [
+        ("encode", 830),
+        ("check", 1023),
+        ("read", 1100),
+        ("search", 7500),
+    ] {
         let ran = scratch.balise(&[command], more(limit).as_bytes());
         assert!(stdout(&ran).ends_with("\nbad\n"));
         let words = format!("balise: standard input: more than {limit} bits\n");
@@ -92,7 +97,11 @@ fn what_is_wrong_with_a_bad_input() {
 fn meanings() -> Vec<(usize, String, String)> {
     let page = fs::read_to_string(repository().join("docs/BENCH.md")).expect("the page");
     let rows = page.lines().filter_map(|line| {
-        let cells: Vec<&str> = line.strip_prefix("| ")?.strip_suffix(" |")?.split(" | ").collect();
+        let cells: Vec<&str> = line
+            .strip_prefix("| ")?
+            .strip_suffix(" |")?
+            .split(" | ")
+            .collect();
         let number = cells[0].parse().ok()?;
         let plain = |text: &str| text.replace('`', "");
         Some((number, plain(cells[2]), plain(cells[3])))
@@ -103,7 +112,10 @@ fn meanings() -> Vec<(usize, String, String)> {
 #[test]
 fn what_a_refusal_means() {
     let meanings = meanings();
-    assert_eq!(meanings.iter().map(|row| row.0).collect::<Vec<_>>(), (1..=13).collect::<Vec<_>>());
+    assert_eq!(
+        meanings.iter().map(|row| row.0).collect::<Vec<_>>(),
+        (1..=13).collect::<Vec<_>>()
+    );
     let scratch = Scratch::built();
     scratch.write("file", "01");
     // not where standard error is no terminal
@@ -115,9 +127,15 @@ fn what_a_refusal_means() {
     for (command, result, number) in [("read", "refused 1", 1), ("search", "none", 13)] {
         let (_, means, advice) = &meanings[number - 1];
         let line = format!("./balise {command} file >answer");
-        let ran = scratch.shell(&format!("{} -qec '{line}' /dev/null </dev/null", script.display()));
+        let ran = scratch.shell(&format!(
+            "{} -qec '{line}' /dev/null </dev/null",
+            script.display()
+        ));
         let said = stdout(&ran).replace('\r', "");
-        assert_eq!(said, format!("balise: file: {result}: {means}. What to do: {advice}\n"));
+        assert_eq!(
+            said,
+            format!("balise: file: {result}: {means}. What to do: {advice}\n")
+        );
         let answer = fs::read_to_string(scratch.path("answer")).expect("an answer");
         assert!(answer.ends_with(&format!("{result}\n")));
     }
@@ -136,11 +154,15 @@ fn each_refusal_has_its_words() {
             "check_telegram",
             &format!("printf 'balise check 1\\nbits 1\\nrefused {number} tried 5\\n'"),
         );
-        let line = format!("rm -f target/bin/*; ./balise check docs/BENCH.md 2>&1 >answer | tail -n 1");
-        let ran = scratch.shell(&line);
-        assert!(ran.status.success());
+        assert!(scratch
+            .shell("rm -f target/bin/*; ./balise build")
+            .status
+            .success());
         let line = "./balise check docs/BENCH.md >answer";
-        let ran = scratch.shell(&format!("{} -qec '{line}' /dev/null </dev/null", script.display()));
+        let ran = scratch.shell(&format!(
+            "{} -qec '{line}' /dev/null </dev/null",
+            script.display()
+        ));
         let words = format!("refused {number} tried 5: {means}. What to do: {advice}\n");
         assert!(stdout(&ran).replace('\r', "").ends_with(&words), "{ran:?}");
     }
@@ -151,14 +173,26 @@ fn each_refusal_has_its_words() {
 fn no_whole_answer() {
     for (program, words) in [
         ("exit 3", "status 3"),
-        ("printf 'balise check 1\\nbits 1023\\nlong proper\\n'; kill -9 $$", "status 137"),
-        ("printf 'balise check 1\\nbits 1023\\nlong proper'", "status 0"),
+        (
+            "printf 'balise check 1\\nbits 1023\\nlong proper\\n'; kill -9 $$",
+            "status 137",
+        ),
+        (
+            "printf 'balise check 1\\nbits 1023\\nlong proper'",
+            "status 0",
+        ),
         ("printf 'balise check 1\\nbits 1023\\n'", "status 0"),
         ("printf 'balise check 1\\n'", "status 0"),
         ("printf '\\n'", "status 0"),
-        ("printf 'balise read 1\\nbits 1023\\nlong proper\\n'", "status 0"),
+        (
+            "printf 'balise read 1\\nbits 1023\\nlong proper\\n'",
+            "status 0",
+        ),
         ("printf 'balise check 1\\nbits 1023\\nlong\\n'", "status 0"),
-        ("printf 'balise check 1\\nbits 1023\\nlong proper\\n01\\n'", "status 0"),
+        (
+            "printf 'balise check 1\\nbits 1023\\nlong proper\\n01\\n'",
+            "status 0",
+        ),
         ("echo words >&2; exit 1", "and said: words"),
     ] {
         let scratch = Scratch::new();
@@ -168,7 +202,10 @@ fn no_whole_answer() {
         assert!(stderr(&ran).contains(words), "{ran:?}");
     }
     let scratch = Scratch::new();
-    scratch.program("encode_block", "printf 'balise encode 1\\nbits 210\\nshort sb 1 esb 2 tried 3\\n'");
+    scratch.program(
+        "encode_block",
+        "printf 'balise encode 1\\nbits 210\\nshort sb 1 esb 2 tried 3\\n'",
+    );
     let ran = scratch.balise(&["encode", "--only"], b"");
     assert_no_answer(&ran, "encode_block gave no answer");
 }
@@ -183,8 +220,14 @@ fn usage() {
     }
     assert_no_answer(&scratch.balise(&[], b""), "usage: balise");
     assert_no_answer(&scratch.balise(&["burn"], b""), "no command 'burn'");
-    assert_no_answer(&scratch.balise(&["check", "--fast"], b""), "no option '--fast'");
-    assert_no_answer(&scratch.balise(&["build", "file"], b""), "build takes no file");
+    assert_no_answer(
+        &scratch.balise(&["check", "--fast"], b""),
+        "no option '--fast'",
+    );
+    assert_no_answer(
+        &scratch.balise(&["build", "file"], b""),
+        "build takes no file",
+    );
     assert!(scratch.proved().is_empty());
 }
 

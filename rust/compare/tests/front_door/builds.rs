@@ -24,7 +24,9 @@ fn progress_and_the_log() {
     let log = scratch.path("target/balise-check_telegram.log");
     let said = stderr(&ran);
     let lines: Vec<&str> = said.lines().collect();
-    assert!(lines[0].starts_with("balise: proving and building check_telegram and what it is made of, 2 crates;"));
+    assert!(lines[0].starts_with(
+        "balise: proving and building check_telegram and what it is made of, 2 crates;"
+    ));
     assert!(lines[0].ends_with(&format!("The log: {}", log.display())));
     assert_eq!(
         lines[1..],
@@ -54,9 +56,16 @@ fn build_builds_all() {
 #[test]
 fn a_touched_file_costs_nothing_and_a_changed_one_a_build() {
     let scratch = Scratch::built();
-    scratch.shell("find crates crates.txt balise -exec touch {} +; touch -d 2001-01-01 target/bin/*");
-    scratch.write("crates/check_telegram/stdin", "an example that someone changed");
-    scratch.write("crates/read_window/src/file.rt", "a crate that check does not need");
+    scratch
+        .shell("find crates crates.txt balise -exec touch {} +; touch -d 2001-01-01 target/bin/*");
+    scratch.write(
+        "crates/check_telegram/stdin",
+        "an example that someone changed",
+    );
+    scratch.write(
+        "crates/read_window/src/file.rt",
+        "a crate that check does not need",
+    );
     assert_checks(&scratch, &[]);
     for (file, text) in [
         ("crates/texts/src/file.rt", "other"),
@@ -87,7 +96,11 @@ fn a_change_undone_costs_nothing() {
     scratch.hook("echo \"rt: $name NOT PROVED (exit 1, 0 s)\"; exit 1");
     assert_no_answer(&scratch.balise(&["check"], b""), "not proved: texts;");
     scratch.shell("mv kept crates/texts/src/file.rt");
-    assert_answer(&scratch.balise_alone(&["check"], proper().as_bytes()), 0, PROPER);
+    assert_answer(
+        &scratch.balise_alone(&["check"], proper().as_bytes()),
+        0,
+        PROPER,
+    );
 }
 
 #[test]
@@ -121,7 +134,9 @@ fn a_program_that_is_gone_or_changed_is_built_again() {
         format!("cp target/bin/read_window {program}"),
     ] {
         // the toolchain would take it for unchanged
-        scratch.shell(&format!("mkdir -p target/stamp; echo x >target/stamp/check_telegram; {line}"));
+        scratch.shell(&format!(
+            "mkdir -p target/stamp; echo x >target/stamp/check_telegram; {line}"
+        ));
         assert_checks(&scratch, &ALL);
         assert!(!scratch.path("target/stamp/check_telegram").exists());
     }
@@ -137,7 +152,10 @@ fn a_build_that_fails() {
     scratch.hook("echo \"rt: $name NOT PROVED (exit 1, 3 s)\"; exit 1");
     assert_no_answer(&check(), &format!("balise: not proved: texts{see}"));
     scratch.hook("echo 'rt: crates.txt: line 1: expected NAME'; exit 2");
-    assert_no_answer(&check(), &format!("the toolchain could not build check_telegram{see}"));
+    assert_no_answer(
+        &check(),
+        &format!("the toolchain could not build check_telegram{see}"),
+    );
     // proved, and the stored example differs
     scratch.hook(
         "[ $name = texts ] || { echo \"rt: $name proved, and its run FAILED (0 s)\"; exit 1; }",
@@ -156,7 +174,10 @@ fn a_build_that_fails() {
 fn without_a_toolchain_nothing_is_built() {
     let scratch = Scratch::new();
     let ran = scratch.balise_alone(&["check"], proper().as_bytes());
-    assert_no_answer(&ran, "the Rattle toolchain is missing: there is no command rt");
+    assert_no_answer(
+        &ran,
+        "the Rattle toolchain is missing: there is no command rt",
+    );
 }
 
 /// One that holds the lock of builds until its standard input is closed.

@@ -102,7 +102,11 @@ fn other_shells() {
     for shell in ["POSIXLY_CORRECT=1 bash", "bash --posix"] {
         let ran = scratch.shell(&format!("{shell} ./balise check none <file"));
         assert_no_answer(&ran, "balise: none: there is no such file\n");
-        assert_answer(&scratch.shell(&format!("{shell} ./balise check file")), 0, PROPER);
+        assert_answer(
+            &scratch.shell(&format!("{shell} ./balise check file")),
+            0,
+            PROPER,
+        );
     }
     let ran = scratch.shell("unset BASH_VERSION; sh ./balise check none <file");
     assert_eq!(ran.status.code(), Some(2), "{ran:?}");
@@ -114,7 +118,11 @@ fn standard_input() {
     let scratch = Scratch::built();
     let proper = proper();
     assert_answer(&scratch.balise(&["check"], proper.as_bytes()), 0, PROPER);
-    assert_answer(&scratch.balise(&["check", "-"], proper.as_bytes()), 0, PROPER);
+    assert_answer(
+        &scratch.balise(&["check", "-"], proper.as_bytes()),
+        0,
+        PROPER,
+    );
     let twice = scratch.balise(&["check", "-", "-"], proper.as_bytes());
     assert_no_answer(&twice, "only once");
 }
@@ -153,6 +161,7 @@ fn several_files() {
 fn many_files() {
     let scratch = Scratch::built();
     scratch.write("good", &proper());
-    let ran = scratch.shell("ulimit -S -n 64; ./balise check $(yes good | head -n 300) | grep -c 'long proper'");
+    let ran = scratch
+        .shell("ulimit -S -n 64; ./balise check $(yes good | head -n 300) | grep -c 'long proper'");
     assert_answer(&ran, 0, "300\n");
 }
