@@ -141,6 +141,23 @@ fn what_a_refusal_means() {
     }
 }
 
+/// Who sits at a terminal is told that it is read.
+#[test]
+fn a_terminal() {
+    let scratch = Scratch::built();
+    let Some(script) = tool("script") else {
+        println!("skipped: there is no command script");
+        return;
+    };
+    let line = format!(
+        "printf '01\\n\\004' | {} -qec './balise check' /dev/null",
+        script.display()
+    );
+    let said = stdout(&scratch.shell(&line));
+    assert!(said.contains("balise: reading bits from the terminal"));
+    assert!(said.contains("refused 1\r\n"));
+}
+
 /// Every refusal has its words, also one with further facts on its line.
 #[test]
 fn each_refusal_has_its_words() {

@@ -161,7 +161,10 @@ fn a_build_that_fails() {
         "[ $name = texts ] || { echo \"rt: $name proved, and its run FAILED (0 s)\"; exit 1; }",
     );
     let ran = check();
-    assert_no_answer(&ran, "check_telegram is proved, but on its stored example");
+    assert_no_answer(
+        &ran,
+        "check_telegram is proved, but its run on the stored example",
+    );
     assert!(!stderr(&ran).contains("not proved"));
     assert!(stderr(&ran).ends_with(&see));
     scratch.hook("[ $name = texts ] || echo change >>crates/texts/src/file.rt");
