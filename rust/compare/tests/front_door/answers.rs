@@ -19,8 +19,14 @@ fn a_write_that_fails() {
     let scratch = Scratch::built();
     for (command, input) in accepted() {
         scratch.write("input", &input);
-        for (options, output) in [("", "/dev/full"), ("", "&-"), ("--status", "/dev/full")] {
-            let ran = scratch.shell(&format!("./balise {command} {options} input >{output}"));
+        for line in [
+            format!("./balise {command} input >/dev/full"),
+            format!("./balise {command} --status input >/dev/full"),
+            format!("./balise {command} input >&-"),
+            format!("ulimit -f 0; ./balise {command} input >output"),
+            format!("{{ sleep 0.2; ./balise {command} input; }} | true; exit ${{PIPESTATUS[0]}}"),
+        ] {
+            let ran = scratch.shell(&line);
             assert_no_answer(&ran, "balise: the answer could not be written");
         }
     }
@@ -60,7 +66,7 @@ fn only_line_four() {
         }
         let four = whole.lines().nth(3).expect("line four");
         assert_answer(&ran, 0, &format!("{four}\n"));
-        for (input, words) in [("01x", "bad\n"), ("01", "")] {
+        for (input, words) in [("01x", "bad: character 120"), ("01", "")] {
             let ran = scratch.balise(&[command, "--only"], input.as_bytes());
             assert_answer(&ran, 1, "");
             assert!(stderr(&ran).contains(words), "{ran:?}");
@@ -230,7 +236,7 @@ fn no_whole_answer() {
 #[test]
 fn usage() {
     let scratch = Scratch::new();
-    for words in [&["help"][..], &["--help"], &["check", "-h"]] {
+    for words in [&["help"][..], &["--help"], &["-h"]] {
         let ran = scratch.balise(words, b"");
         assert_eq!(ran.status.code(), Some(0));
         assert!(stdout(&ran).starts_with("usage: balise COMMAND"));
@@ -245,6 +251,11 @@ fn usage() {
         &scratch.balise(&["build", "file"], b""),
         "build takes no file",
     );
+    // what stands for a file is never taken for a wish to read this text
+    for word in ["-h", "--help", "--version"] {
+        let ran = scratch.balise(&["check", "--status", word], proper().as_bytes());
+        assert_no_answer(&ran, "usage: balise COMMAND");
+    }
     assert!(scratch.proved().is_empty());
 }
 

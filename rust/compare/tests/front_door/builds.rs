@@ -14,6 +14,7 @@ fn assert_checks(scratch: &Scratch, crates: &[&str]) {
 }
 
 const ALL: [&str; 2] = ["texts", "check_telegram"];
+const PROGRAM: [&str; 1] = ["check_telegram"];
 
 #[test]
 fn progress_and_the_log() {
@@ -133,12 +134,11 @@ fn a_program_that_is_gone_or_changed_is_built_again() {
         format!("echo >>{program}"),
         format!("cp target/bin/read_window {program}"),
     ] {
-        // the toolchain would take it for unchanged
-        scratch.shell(&format!(
-            "mkdir -p target/stamp; echo x >target/stamp/check_telegram; {line}"
-        ));
-        assert_checks(&scratch, &ALL);
-        assert!(!scratch.path("target/stamp/check_telegram").exists());
+        scratch.shell(&line);
+        assert_checks(&scratch, &PROGRAM);
+        // also where no build is recorded, as after the toolchain alone
+        scratch.shell(&format!("rm target/*.built; {line}"));
+        assert_checks(&scratch, &PROGRAM);
     }
 }
 
@@ -185,7 +185,7 @@ fn without_a_toolchain_nothing_is_built() {
 
 /// One that holds the lock of builds until its standard input is closed.
 fn holder(scratch: &Scratch) -> Child {
-    let line = "mkdir -p target; echo read_window >target/balise.lock; exec 9<>target/balise.lock; flock 9; echo held; read -r";
+    let line = "mkdir -p target; echo read_window >target/balise.lock; exec 9<>target/balise.lock; flock 9; echo held; read -r -t 60";
     let mut child = scratch
         .command("bash", false)
         .args(["-c", line])
@@ -225,6 +225,56 @@ fn another_build() {
     let ran = waiting.wait_with_output().expect("an output");
     assert_answer(&ran, 0, PROPER);
     assert_eq!(scratch.proved(), ALL);
+}
+
+/// A build that is interrupted leaves no program that would be run.
+#[test]
+fn an_interrupted_build() {
+    for signal in ["INT", "TERM", "KILL"] {
+        let scratch = Scratch::new();
+        scratch.write("file", &proper());
+        scratch.hook("[ $name = texts ] || { echo half >target/bin/$name; sleep 2; }");
+        let line = format!("timeout -s {signal} 1 ./balise check file");
+        let ran = scratch.shell(&line);
+        assert!(!ran.status.success());
+        assert!(ran.stdout.is_empty(), "{ran:?}");
+        assert!(!scratch.path("target/balise-check_telegram.built").exists());
+        scratch.hook("");
+        let ran = scratch.balise(&["check", "file"], b"");
+        assert_answer(&ran, 0, PROPER);
+    }
+}
+
+/// A program that another build replaces while it runs is not answered for.
+#[test]
+fn a_program_replaced_while_it_runs() {
+    let scratch = Scratch::new();
+    scratch.program(
+        "check_telegram",
+        "echo '#' >>\"$0\"; printf 'balise check 1\\nbits 0\\nlong proper\\n'",
+    );
+    let ran = scratch.balise(&["check"], b"");
+    assert_no_answer(&ran, "check_telegram was changed while it ran");
+}
+
+/// The toolchain follows no symbolic link, and what it leads to is in no sum.
+#[test]
+fn a_symbolic_link_in_the_source() {
+    let scratch = Scratch::built();
+    scratch.shell("mv crates/texts/src/file.rt kept; ln -s ../../../kept crates/texts/src/file.rt");
+    let ran = scratch.balise(&["check"], proper().as_bytes());
+    assert_no_answer(&ran, "is a symbolic link");
+}
+
+/// A sum that cannot be made is no sum.
+#[test]
+fn a_tool_that_is_missing() {
+    for tool in ["find", "xargs", "sha256sum", "awk", "flock"] {
+        let scratch = Scratch::new();
+        scratch.shell(&format!("rm tools/{tool}"));
+        let ran = scratch.balise(&["check"], proper().as_bytes());
+        assert_no_answer(&ran, &format!("there is no command {tool}"));
+    }
 }
 
 /// Two that find nothing built: one builds, and the other takes what it built.

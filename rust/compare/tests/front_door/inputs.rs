@@ -1,9 +1,10 @@
 //! An answer only for the file named: in each of these tests a telegram fit to
 //! burn stands on standard input, and the file named is another.
 
-use crate::scratch::{assert_answer, assert_no_answer, stderr, Scratch};
+use crate::scratch::{assert_answer, assert_no_answer, stderr, tool, Scratch};
 use crate::{proper, BAD, PROPER};
-use std::fs;
+use std::fs::{self, File};
+use std::os::fd::AsRawFd;
 use std::os::unix::fs::{MetadataExt, PermissionsExt};
 use std::os::unix::net::UnixListener;
 
@@ -19,13 +20,16 @@ fn assert_not_opened(name: &str, make: impl Fn(&Scratch), words: &str) {
     }
 }
 
+/// Makes a socket. Its path is short, wherever the folder is.
+fn make_socket(scratch: &Scratch) {
+    let folder = File::open(&scratch.root).expect("a folder");
+    let path = format!("/proc/self/fd/{}/socket", folder.as_raw_fd());
+    drop(UnixListener::bind(path).expect("a socket"));
+}
+
 #[test]
 fn a_socket() {
-    assert_not_opened(
-        "socket",
-        |scratch| drop(UnixListener::bind(scratch.path("socket")).expect("a socket")),
-        "balise: socket: it is a socket\n",
-    );
+    assert_not_opened("socket", make_socket, "balise: socket: it is a socket\n");
 }
 
 #[test]
@@ -51,6 +55,10 @@ fn no_permission() {
     // root may read any file, so root asks as nobody
     let root = fs::metadata(&secret).expect("a file").uid() == 0;
     let ran = if root {
+        if tool("setpriv").is_none() {
+            println!("skipped: there is no command setpriv");
+            return;
+        }
         let nobody = "setpriv --reuid=65534 --regid=65534 --clear-groups";
         scratch.write("input", &proper());
         scratch.shell(&format!("{nobody} ./balise check secret <input"))
@@ -94,14 +102,16 @@ fn what_opens_and_cannot_be_read() {
     assert_no_answer(&ran, "balise: standard input: it is a folder\n");
 }
 
-/// A shell that ends at a redirection that fails, and one that is not bash.
+/// A shell that ends at a redirection that fails, or at a test that does not
+/// hold, and one that is not bash.
 #[test]
 fn other_shells() {
     let scratch = Scratch::built();
     scratch.write("file", &proper());
-    for shell in ["POSIXLY_CORRECT=1 bash", "bash --posix"] {
-        let ran = scratch.shell(&format!("{shell} ./balise check none <file"));
-        assert_no_answer(&ran, "balise: none: there is no such file\n");
+    make_socket(&scratch);
+    for shell in ["POSIXLY_CORRECT=1 bash", "bash --posix", "bash -e"] {
+        let ran = scratch.shell(&format!("{shell} ./balise check socket <file"));
+        assert_no_answer(&ran, "balise: socket: it is a socket\n");
         assert_answer(
             &scratch.shell(&format!("{shell} ./balise check file")),
             0,
@@ -125,6 +135,35 @@ fn standard_input() {
     );
     let twice = scratch.balise(&["check", "-", "-"], proper.as_bytes());
     assert_no_answer(&twice, "only once");
+}
+
+/// A pipe under two names is read under the first.
+#[test]
+fn a_pipe_named_twice() {
+    let scratch = Scratch::built();
+    let names = ["check", "-", "/dev/stdin"];
+    let ran = scratch.balise(&names, proper().as_bytes());
+    let answer = format!("==> standard input <==\n{PROPER}");
+    assert_answer(&ran, 2, &answer);
+    assert_eq!(
+        stderr(&ran),
+        "balise: /dev/stdin: it can be read only once\n"
+    );
+}
+
+/// A name of a descriptor that only the script has.
+#[test]
+fn a_descriptor_of_the_script() {
+    let scratch = Scratch::built();
+    scratch.write("file", &proper());
+    for number in 10..14 {
+        let name = format!("/dev/fd/{number}");
+        let close = "exec 10<&- 11<&- 12<&- 13<&-";
+        let ran = scratch.shell(&format!("{close}; ./balise check file {name}"));
+        assert_eq!(ran.status.code(), Some(2), "{ran:?}");
+        let words = format!("balise: {name}: there is no such file\n");
+        assert_eq!(stderr(&ran), words);
+    }
 }
 
 #[test]
@@ -154,6 +193,21 @@ fn several_files() {
     let ran = scratch.balise(&["--status", "check", "good", "none", "-"], b"2");
     let answer = format!("==> good <==\n{PROPER}==> standard input <==\n{BAD}");
     assert_answer(&ran, 2, &answer);
+}
+
+/// All are opened before the first is read.
+#[test]
+fn a_file_removed_while_another_is_read() {
+    let scratch = Scratch::new();
+    scratch.program(
+        "check_telegram",
+        "rm -f two; cat >/dev/null; printf 'balise check 1\\nbits 0\\nlong proper\\n'",
+    );
+    scratch.write("one", "");
+    scratch.write("two", "");
+    let ran = scratch.balise(&["check", "one", "two"], b"");
+    assert_eq!(ran.status.code(), Some(0), "{ran:?}");
+    assert!(!scratch.path("two").exists());
 }
 
 /// More files than a process may have open to begin with.

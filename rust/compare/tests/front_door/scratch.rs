@@ -41,7 +41,9 @@ const TOOLS: [&str; 21] = [
     "xargs",
 ];
 
-/// `rt` of the scratch folder. A file `hook` beside it is run at each check.
+/// `rt` of the scratch folder. As the real one it does not prove again what has
+/// not changed, and does not look at the program. A file `hook` beside it is run
+/// for each crate that is proved.
 const RT: &str = r#"#!/bin/sh
 PATH=$PATH:/usr/bin:/bin
 here=$(cd "$(dirname "$0")" && pwd)
@@ -49,11 +51,17 @@ case $1 in
     version) echo "kit of the tests" ;;
     check)
         shift
-        mkdir -p target/bin
+        mkdir -p target/bin target/stamp
         for name in "$@"; do
+            sum=$(find crates.txt crates -type f ! -name stdin | sort | xargs cat | cksum)
+            if [ "$(cat "target/stamp/$name" 2>/dev/null)" = "$sum" ]; then
+                echo "rt: $name proved (unchanged since it was last proved)"
+                continue
+            fi
             echo "$name" >>"$here/proved"
             [ ! -f "$here/hook" ] || . "$here/hook"
-            [ ! -f "$here/programs/$name" ] || cp "$here/programs/$name" "target/bin/$name"
+            [ ! -f "$here/programs/$name" ] || install "$here/programs/$name" target/bin
+            echo "$sum" >"target/stamp/$name"
             echo "rt: $name proved (0 s)"
         done
         ;;
@@ -72,9 +80,11 @@ pub fn tool(name: &str) -> Option<PathBuf> {
         .find(|path| path.is_file())
 }
 
-fn executable(path: &Path, text: &str) {
-    fs::write(path, text).expect("a script");
-    fs::set_permissions(path, fs::Permissions::from_mode(0o755)).expect("its mode");
+/// Puts a program in its place. Another process writes it: what this one has
+/// open for writing, no other thread's child could run.
+fn install(from: &Path, to: &Path) {
+    let status = Command::new("install").arg(from).arg(to).status();
+    assert!(status.expect("install").success());
 }
 
 pub struct Scratch {
@@ -87,17 +97,19 @@ impl Scratch {
         static COUNT: AtomicUsize = AtomicUsize::new(0);
         let count = COUNT.fetch_add(1, Ordering::Relaxed);
         let name = format!("balise-front-door-{}-{count}", process::id());
+        let folder = env::temp_dir().canonicalize().expect("a folder");
         let scratch = Scratch {
-            root: env::temp_dir().join(name),
+            root: folder.join(name),
         };
         let root = &scratch.root;
+        let _ = fs::remove_dir_all(root); // of a run that was ended
         for folder in ["docs", "tools", "kit/programs"] {
             fs::create_dir_all(root.join(folder)).expect("a folder");
         }
         fs::set_permissions(root, fs::Permissions::from_mode(0o755)).expect("its mode");
-        for file in ["balise", "docs/BENCH.md"] {
-            fs::copy(repository().join(file), root.join(file)).expect(file);
-        }
+        install(&repository().join("balise"), &root.join("balise"));
+        let page = "docs/BENCH.md";
+        fs::copy(repository().join(page), root.join(page)).expect(page);
         let mut crates = String::from("texts: io libc # characters\n");
         for name in PROGRAMS {
             crates += &format!("{name}: texts\n");
@@ -113,9 +125,9 @@ impl Scratch {
         }
         for name in PROGRAMS {
             let program = repository().join("target/bin").join(name);
-            fs::copy(program, root.join("kit/programs").join(name)).expect(name);
+            install(&program, &root.join("kit/programs").join(name));
         }
-        executable(&root.join("kit/rt"), RT);
+        scratch.script("kit/rt", RT);
         scratch
     }
 
@@ -142,12 +154,15 @@ impl Scratch {
         self.write("kit/hook", text);
     }
 
+    fn script(&self, name: &str, text: &str) {
+        self.write("script", text);
+        install(&self.path("script"), &self.path(name));
+    }
+
     /// A program of the kit, as a shell script.
     pub fn program(&self, name: &str, text: &str) {
-        executable(
-            &self.path("kit/programs").join(name),
-            &format!("#!/bin/sh\n{text}\n"),
-        );
+        let name = format!("kit/programs/{name}");
+        self.script(&name, &format!("#!/bin/sh\n{text}\n"));
     }
 
     /// The crates that `rt` was asked to check, in order.
