@@ -1,6 +1,6 @@
 //! What is written, and the exit status.
 
-use crate::scratch::{assert_answer, assert_no_answer, repository, stderr, stdout, tool, Scratch};
+use crate::scratch::{assert_answer, assert_no_answer, repository, stderr, stdout, Scratch};
 use crate::{example, proper, BAD, PROPER};
 use std::fs;
 
@@ -126,22 +126,14 @@ fn what_a_refusal_means() {
     scratch.write("file", "01");
     // not where standard error is no terminal
     assert_eq!(stderr(&scratch.balise(&["check", "file"], b"")), "");
-    let Some(script) = tool("script") else {
-        println!("skipped: there is no command script");
-        return;
-    };
     for (command, result, number) in [("read", "refused 1", 1), ("search", "none", 13)] {
-        let (_, means, advice) = &meanings[number - 1];
         let line = format!("./balise {command} file >answer");
-        let ran = scratch.shell(&format!(
-            "{} -qec '{line}' /dev/null </dev/null",
-            script.display()
-        ));
-        let said = stdout(&ran).replace('\r', "");
-        assert_eq!(
-            said,
-            format!("balise: file: {result}: {means}. What to do: {advice}\n")
-        );
+        let Some(said) = scratch.at_a_terminal(&line, "") else {
+            return;
+        };
+        let (_, means, advice) = &meanings[number - 1];
+        let words = format!("balise: file: {result}: {means}. What to do: {advice}\n");
+        assert_eq!(said, words);
         let answer = fs::read_to_string(scratch.path("answer")).expect("an answer");
         assert!(answer.ends_with(&format!("{result}\n")));
     }
@@ -151,43 +143,29 @@ fn what_a_refusal_means() {
 #[test]
 fn a_terminal() {
     let scratch = Scratch::built();
-    let Some(script) = tool("script") else {
-        println!("skipped: there is no command script");
-        return;
-    };
-    let line = format!(
-        "printf '01\\n\\004' | {} -qec './balise check' /dev/null",
-        script.display()
-    );
-    let said = stdout(&scratch.shell(&line));
-    assert!(said.contains("balise: reading bits from the terminal"));
-    assert!(said.contains("refused 1\r\n"));
+    if let Some(said) = scratch.at_a_terminal("./balise check", "01\\n\\004") {
+        assert!(said.contains("balise: reading bits from the terminal"));
+        assert!(said.contains("refused 1\n"));
+    }
 }
 
 /// Every refusal has its words, also one with further facts on its line.
 #[test]
 fn each_refusal_has_its_words() {
     let scratch = Scratch::new();
-    let Some(script) = tool("script") else {
-        println!("skipped: there is no command script");
-        return;
-    };
     for (number, means, advice) in meanings() {
         scratch.program(
             "check_telegram",
             &format!("printf 'balise check 1\\nbits 1\\nrefused {number} tried 5\\n'"),
         );
-        assert!(scratch
-            .shell("rm -f target/bin/*; ./balise build")
-            .status
-            .success());
+        let built = scratch.shell("rm -f target/bin/*; ./balise build");
+        assert!(built.status.success());
         let line = "./balise check docs/BENCH.md >answer";
-        let ran = scratch.shell(&format!(
-            "{} -qec '{line}' /dev/null </dev/null",
-            script.display()
-        ));
+        let Some(said) = scratch.at_a_terminal(line, "") else {
+            return;
+        };
         let words = format!("refused {number} tried 5: {means}. What to do: {advice}\n");
-        assert!(stdout(&ran).replace('\r', "").ends_with(&words), "{ran:?}");
+        assert!(said.ends_with(&words), "{said}");
     }
 }
 

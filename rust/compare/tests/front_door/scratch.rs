@@ -203,6 +203,17 @@ impl Scratch {
         self.ran(command.env("PATH", path), b"")
     }
 
+    /// What a line of the shell writes to a terminal at which this is typed;
+    /// none where the machine has no command `script`.
+    pub fn at_a_terminal(&self, line: &str, typed: &str) -> Option<String> {
+        if tool("script").is_none() {
+            println!("skipped: there is no command script");
+            return None;
+        }
+        let line = format!("printf '{typed}' | script -qec '{line}' /dev/null");
+        Some(stdout(&self.shell(&line)).replace('\r', ""))
+    }
+
     pub fn ran(&self, command: &mut Command, input: &[u8]) -> Output {
         let mut child = command
             .stdin(Stdio::piped())
