@@ -1,5 +1,3 @@
 pub mod Fits
-pub mod Lowest
 pub mod Sizes
 pub mod TwoWords
-pub mod Numbered

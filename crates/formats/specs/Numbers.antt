@@ -6,8 +6,6 @@ use mathlib.Core.List.{List, [], _∷_}
 use lib.Dec.{eqb}
 use Rattle.formats.specs.declared.format.Format.{Format}
 use Rattle.formats.specs.declared.format.Format.the-variants.{Long, Short}
-use Rattle.formats.specs.declared.format.Fit.{Fit}
-use Rattle.formats.specs.declared.format.Fit.the-variants.{As, Nothing}
 use Rattle.formats.specs.Polynomial.{polynomial, product}
 
 -- user bits m, telegram n, words, extra r; f and g by their exponents
@@ -45,9 +43,10 @@ abbrev pub numbersOf : Format → Numbers
 numbersOf Long = long
 numbersOf Short = short
 
--- the input's length picks the format: that of a long one, that of a short one, or neither
-unfoldable pub fitOf : ℕ → ℕ → ℕ → Fit
-fitOf longSize shortSize size = cond (eqb size longSize) (As Long) (cond (eqb size shortSize) (As Short) Nothing)
+-- the format that an input's length picks, of a kind of input that has shortSize in the short format: short where it is that, else long;
+-- a length that is neither's is refused (document 01, refusal 1)
+unfoldable pub formatFor : ℕ → ℕ → Format
+formatFor shortSize size = cond (eqb size shortSize) Short Long
 
 -- the blocks of ten user bits, and the bits of a window
 abbrev pub blocks : Numbers → ℕ

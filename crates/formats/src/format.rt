@@ -2,19 +2,13 @@
 // f and g of each by their exponents (document 01, "Check bits").
 ghost use mathlib.Core.Path.{_≡_};
 ghost use Rattle.bits.specs.Bits.{numberOf};
-ghost use Rattle.formats.specs.Numbers.{long, short, numbersOf, fitOf, fOf, gOf, fgOf};
+ghost use Rattle.formats.specs.Numbers.{long, short, numbersOf, windowBits, formatFor, fOf, gOf, fgOf};
 ghost use Rattle.formats.specs.Value.{valueOf};
 use crate::register::Register;
 
 pub enum Format {
     Long,
     Short,
-}
-
-// The format that a length picks.
-pub enum Fit {
-    As(Format),
-    Nothing,
 }
 
 pub struct Long {}
@@ -187,17 +181,12 @@ impl Short {
     }
 }
 
-// The format that the input's length picks, from the length that each format has for this input.
-pub fn of_length(long: usize, short: usize, size: usize) -> Fit
-    ensures { λ r. ⌜ r ≡ fitOf long short size ⌝ }
+// The format that an input's length picks, from the length that the input has in the short format. A length that is
+// neither format's picks long.
+pub fn of_length(short: usize, size: usize) -> Format
+    ensures { λ r. ⌜ r ≡ formatFor short size ⌝ }
 {
-    if size == long {
-        return Fit::As(Format::Long);
-    }
-    if size == short {
-        return Fit::As(Format::Short);
-    }
-    Fit::Nothing
+    if size == short { Format::Short } else { Format::Long }
 }
 
 // The format's telegram bits.
@@ -228,6 +217,13 @@ pub fn extra_bits(format: Format) -> usize
         Format::Long => Long::R,
         Format::Short => Short::R,
     }
+}
+
+// The bits of the format's window.
+pub fn window_bits(format: Format) -> usize
+    ensures { λ n. ⌜ n ≡ windowBits (numbersOf format) ⌝ }
+{
+    telegram_bits(format) + extra_bits(format)
 }
 
 // The format's words.

@@ -1,4 +1,3 @@
-// The two formats with their fixed numbers and polynomials, and the refusals with their numbers.
+// The two formats with their fixed numbers and polynomials.
 pub mod format;
-pub mod refusal;
 pub mod register;

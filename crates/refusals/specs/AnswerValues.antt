@@ -4,10 +4,8 @@
 use Prim.Native.Nat.{ℕ}
 use mathlib.Core.Bool.{Bool, true, false}
 use mathlib.Core.List.{List, [], _∷_}
 use Rattle.formats.specs.declared.format.Format.{Format}
 use Rattle.formats.specs.declared.format.Format.the-variants.{Long, Short}
-use Rattle.formats.specs.declared.refusal.Refusal.{Refusal}
-use Rattle.formats.specs.Refused.{refusalNumber, triedCount}
 
 -- 0 long, 1 short
 abbrev pub formatNumber : Format → ℕ
@@ -19,6 +17,3 @@ abbrev pub flippedNumber : Bool → ℕ
 flippedNumber false = 0
 flippedNumber true = 1
 
--- a refusal carries its number and, for 4, the count of pairs tried
-abbrev pub refusalValues : Refusal → List ℕ
-refusalValues refusal = refusalNumber refusal ∷ triedCount refusal ∷ []

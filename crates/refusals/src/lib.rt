@@ -1,12 +1,12 @@
 // The refusals and their numbers (document 01, "When the bench says no", in its order).
 ghost use mathlib.Core.Path.{_≡_};
-ghost use Rattle.formats.specs.Refused.{refusalNumber, triedCount};
+ghost use Rattle.refusals.specs.Refused.{pairCount, refusalNumber, triedCount};
 
 pub enum Refusal {
     Length,
     NotBit,
     OutputShort,
-    NoPair { tried: u32 },
+    NoPair,
     EndsDiffer,
     NotDivisible,
     NoTurn,
@@ -18,6 +18,9 @@ pub enum Refusal {
     NoPlace,
 }
 
+// How many pairs of scrambling and extra shaping bits there are.
+const PAIRS: u32 = 4194304;
+
 // The refusal's number.
 pub fn number(refusal: Refusal) -> u8
     ensures { λ n. ⌜ n ≡ refusalNumber refusal ⌝ }
@@ -26,7 +29,7 @@ pub fn number(refusal: Refusal) -> u8
         Refusal::Length => 1,
         Refusal::NotBit => 2,
         Refusal::OutputShort => 3,
-        Refusal::NoPair { tried: _ } => 4,
+        Refusal::NoPair => 4,
         Refusal::EndsDiffer => 5,
         Refusal::NotDivisible => 6,
         Refusal::NoTurn => 7,
@@ -43,19 +46,5 @@ pub fn number(refusal: Refusal) -> u8
 pub fn tried(refusal: Refusal) -> u32
     ensures { λ n. ⌜ n ≡ triedCount refusal ⌝ }
 {
-    match refusal {
-        Refusal::Length => 0,
-        Refusal::NotBit => 0,
-        Refusal::OutputShort => 0,
-        Refusal::NoPair { tried } => tried,
-        Refusal::EndsDiffer => 0,
-        Refusal::NotDivisible => 0,
-        Refusal::NoTurn => 0,
-        Refusal::Control => 0,
-        Refusal::NotWord => 0,
-        Refusal::OffStep => 0,
-        Refusal::Repeating => 0,
-        Refusal::Thinned => 0,
-        Refusal::NoPlace => 0,
-    }
+    if number(refusal) == 4 { PAIRS } else { 0 }
 }

@@ -1,7 +1,6 @@
--- The outcome of a call that writes a buffer, and the order of a call's tests (document 01, "When the bench says no").
+-- The outcome of a call that writes a buffer (document 01, "When the bench says no").
 -- Assumes nothing.
 use Prim.Native.Nat.{ℕ}
-use mathlib.Core.Bool.{Bool, true, false}
 use mathlib.Core.List.{List}
 
 -- the answer, and every byte of the output afterwards
@@ -11,8 +10,3 @@ pub record Outcome (A : Type 0) : Type 0 where
 
 abbrev pub outcome : {A : Type 0} → A → List ℕ → Outcome A
 outcome answer output = record { answer = answer; output = output }
-
--- refused where the test fails, else what follows
-abbrev pub orRefuse : {A : Type 0} → Bool → A → A → A
-orRefuse true refused rest = rest
-orRefuse false refused rest = refused

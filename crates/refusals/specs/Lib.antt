@@ -1,0 +1,4 @@
+pub mod Refused
+pub mod Table
+pub mod Outcome
+pub mod AnswerValues

@@ -1,0 +1,31 @@
+-- The refusals' numbers, and the count that refusal 4 carries (document 01, "When the bench says no").
+-- Assumes nothing.
+use Prim.Native.Nat.{ℕ}
+use mathlib.Core.Bool.{cond}
+use lib.Dec.{eqb}
+use Rattle.refusals.specs.declared.Refusal.{Refusal}
+use Rattle.refusals.specs.declared.Refusal.the-variants.{Length, NotBit, OutputShort, NoPair, EndsDiffer, NotDivisible, NoTurn, Control, NotWord, OffStep, Repeating, Thinned, NoPlace}
+
+-- the pairs of scrambling and extra shaping bits: B from 0 to 4095 and, within each, esb from 0 to 1023
+abbrev pub pairCount : ℕ
+pairCount = 4194304
+
+-- the number of each, in the order of document 01's list
+abbrev pub refusalNumber : Refusal → ℕ
+refusalNumber Length = 1
+refusalNumber NotBit = 2
+refusalNumber OutputShort = 3
+refusalNumber NoPair = 4
+refusalNumber EndsDiffer = 5
+refusalNumber NotDivisible = 6
+refusalNumber NoTurn = 7
+refusalNumber Control = 8
+refusalNumber NotWord = 9
+refusalNumber OffStep = 10
+refusalNumber Repeating = 11
+refusalNumber Thinned = 12
+refusalNumber NoPlace = 13
+
+-- the count of pairs tried that refusal 4 carries, which is that of all pairs; 0 for every other
+abbrev pub triedCount : Refusal → ℕ
+triedCount refusal = cond (eqb (refusalNumber refusal) 4) pairCount 0
