@@ -1,3 +1,5 @@
 pub mod Windows
 pub mod Reads
+pub mod CutFrom
+pub mod ReadsExactly
 pub mod AllWords
