@@ -69,7 +69,7 @@ module _ (B esb : ℕ) (below : esb < 1024) where
   pair-searched = ap₂ Pair pair-scrambling pair-shaping
 
   module _ (format : Format) (u : List ℕ) where
-    pub pair-telegram : telegramAt format u (1024 * B + esb) ≡ telegramOf (numbersOf format) u B esb
+    pair-telegram : telegramAt format u (1024 * B + esb) ≡ telegramOf (numbersOf format) u B esb
     unfolding telegramAt
     pair-telegram = ap₂ (telegramOf (numbersOf format) u) pair-scrambling pair-shaping
 
@@ -97,7 +97,7 @@ searched-none (found p) e = clash cc
 searched-none none e = refl
 
 -- a made telegram is proper if it passes the tests that are left
-pub made-proper : (format : Format) (u : List ℕ) (B esb : ℕ)
+made-proper : (format : Format) (u : List ℕ) (B esb : ℕ)
     → madeProper format (telegramOf (numbersOf format) u B esb) ≡ proper format (telegramOf (numbersOf format) u B esb)
 unfolding madeProper proper
 made-proper format u B esb = rw (made-well-formed (numbersOf format) (factsOf format) (sizesOf format) u B esb)

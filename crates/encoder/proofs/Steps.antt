@@ -18,63 +18,58 @@ use Rattle.refusals.specs.Refused.{refusalNumber}
 use Rattle.refusals.specs.Table.{Verdict, refused, accepted, verdict, answerBy, risesAbove}
 use Rattle.refusals.specs.Outcome.{outcome}
 use Rattle.refusals.proofs.Table.{Decides, passed, failed, all-passed, NoRow, accepted-no-row}
+use Rattle.encoder.specs.declared.Encoded.{Encoded}
 use Rattle.encoder.specs.declared.Encoded.the-variants.{Pair, Refused}
 use Rattle.encoder.specs.Encoding.{formatOf, firstPair, encodeTable, written, encodeAs, encodeOf}
 use Rattle.encoder.specs.Encodes.{CleanBlock, wrotePair, foundNone}
 use Rattle.encoder.proofs.Pairs.{pair-written}
 
--- ---- the format
-
--- any block is held to the format that its length picks
-pub any-block : (format : Format) (u out : List ℕ) → format ≡ formatOf u → encodeOf u out ≡ encodeAs format u out
-unfolding encodeOf
-any-block format u out e = rw e
-
-pub format-is : (format : Format) (u : List ℕ) → length u ≡ numbersOf format .m → formatOf u ≡ format
-format-is format u = picks (λ (F : Numbers). F .m) blocks-apart format (length u)
-
 -- ---- the rows
 
 module _ (format : Format) (u out : List ℕ) where
-  decided : (v : Verdict Refusal) → Decides (encodeTable format (length out) u) v
-      → encodeAs format u out
-      ≡ answerBy (λ (r : Refusal). outcome (Refused r) out) (written format u out (whichFound (firstPair format u))) v
-  unfolding encodeAs
-  decided v d = rw (d .verdict-is)
+  -- the format is that which the length picks
+  decided : (v : Verdict Refusal) → format ≡ formatOf u → Decides (encodeTable format (length out) u) v
+      → encodeOf u out ≡ answerBy (λ (r : Refusal). outcome (Refused r) out) (written format u out (whichFound (firstPair format u))) v
+  unfolding encodeOf encodeAs
+  decided v e d = rw (← e, d .verdict-is)
 
   -- the length is not the format's
-  pub length-refused : (length u ≡ numbersOf format .m → ⊥) → encodeAs format u out ≡ outcome (Refused Length) out
+  pub length-refused : format ≡ formatOf u → (length u ≡ numbersOf format .m → ⊥) → encodeOf u out ≡ outcome (Refused Length) out
   unfolding encodeTable
-  length-refused h = decided (refused Length) (failed (ne-eqb (length u) (numbersOf format .m) h))
+  length-refused e h = decided (refused Length) e (failed (ne-eqb (length u) (numbersOf format .m) h))
 
   module _ (size : length u ≡ numbersOf format .m) where
+    -- it is, so the length picks it
+    picked : format ≡ formatOf u
+    picked = sym (picks (λ (F : Numbers). F .m) blocks-apart format (length u) size)
+
     -- a byte other than 0 or 1
-    pub bits-refused : allBits u ≡ false → encodeAs format u out ≡ outcome (Refused NotBit) out
+    pub bits-refused : allBits u ≡ false → encodeOf u out ≡ outcome (Refused NotBit) out
     unfolding encodeTable
-    bits-refused e = decided (refused NotBit) (passed (eq-eqb (length u) (numbersOf format .m) size) (failed e))
+    bits-refused e = decided (refused NotBit) picked (passed (eq-eqb (length u) (numbersOf format .m) size) (failed e))
 
     -- the output is too short
-    pub room-refused : allBits u ≡ true → length out < numbersOf format .n → encodeAs format u out ≡ outcome (Refused OutputShort) out
+    pub room-refused : allBits u ≡ true → length out < numbersOf format .n → encodeOf u out ≡ outcome (Refused OutputShort) out
     unfolding encodeTable
     room-refused e h =
-        decided (refused OutputShort)
+        decided (refused OutputShort) picked
         (passed (eq-eqb (length u) (numbersOf format .m) size) (passed e (failed (lt-leb (numbersOf format .n) (length out) h))))
 
   module _ (clean : CleanBlock format u out) where
     -- no pair is proper
-    pub none-refused : firstPair format u ≡ none → encodeAs format u out ≡ foundNone out
+    pub none-refused : firstPair format u ≡ none → encodeOf u out ≡ foundNone out
     unfolding encodeTable
     none-refused e =
-        decided (refused NoPair)
+        decided (refused NoPair) (picked (clean .size))
         (passed (eq-eqb (length u) (numbersOf format .m) (clean .size))
         (passed (is-true (allBits u) (clean .bits))
         (passed (le-leb (numbersOf format .n) (length out) (clean .room)) (failed (ap isFound e)))))
 
     -- the pair B, esb is the first
-    pub pair-given : (B esb : ℕ) → esb < 1024 → firstPair format u ≡ found (1024 * B + esb) → encodeAs format u out ≡ wrotePair format u out B esb
+    pub pair-given : (B esb : ℕ) → esb < 1024 → firstPair format u ≡ found (1024 * B + esb) → encodeOf u out ≡ wrotePair format u out B esb
     unfolding encodeTable
     pair-given B esb h e =
-        decided accepted
+        decided accepted (picked (clean .size))
         (passed (eq-eqb (length u) (numbersOf format .m) (clean .size))
         (passed (is-true (allBits u) (clean .bits))
         (passed (le-leb (numbersOf format .n) (length out) (clean .room)) (passed (ap isFound e) all-passed))))
@@ -104,16 +99,19 @@ pub same-table : (format : Format) (u out out′ : List ℕ) → numbersOf forma
 unfolding encodeTable
 same-table format u out out′ h h′ = rw (le-leb (numbersOf format .n) (length out) h, le-leb (numbersOf format .n) (length out′) h′)
 
+-- the answer where no refusal applies
+abbrev pub firstAnswer : List ℕ → Encoded
+firstAnswer u = let p = whichFound (firstPair (formatOf u) u) in Pair (formatOf u) (p / 1024) (p % 1024) (p + 1)
+
 module _ (u out : List ℕ) where
   -- the answer by the verdict
-  pub answer-by : (p : ℕ) → p ≡ whichFound (firstPair (formatOf u) u) → encodeOf u out .answer
-      ≡ answerBy Refused (Pair (formatOf u) (p / 1024) (p % 1024) (p + 1)) (verdict (encodeTable (formatOf u) (length out) u))
+  pub answer-by : encodeOf u out .answer ≡ answerBy Refused (firstAnswer u) (verdict (encodeTable (formatOf u) (length out) u))
   unfolding encodeOf encodeAs written
-  answer-by p e = rw (← e) (go (verdict (encodeTable (formatOf u) (length out) u)))
+  answer-by = go (verdict (encodeTable (formatOf u) (length out) u))
     where
       go : (v : Verdict Refusal)
-          → answerBy (λ (r : Refusal). outcome (Refused r) out) (written (formatOf u) u out p) v .answer
-          ≡ answerBy Refused (Pair (formatOf u) (p / 1024) (p % 1024) (p + 1)) v
+          → answerBy (λ (r : Refusal). outcome (Refused r) out) (written (formatOf u) u out (whichFound (firstPair (formatOf u) u))) v .answer
+          ≡ answerBy Refused (firstAnswer u) v
       go (refused r) = refl
       go accepted = refl
 

@@ -1,7 +1,7 @@
 // Encoding a block of user bits (document 01, "Search, reading and place", and "When the bench says no": refusals 1 to 4).
 ghost use mathlib.Core.Path.{_≡_};
 ghost use Rattle.refusals.specs.Outcome.{outcome};
-ghost use Rattle.encoder.specs.Encoding.{encodeAs, encodeOf};
+ghost use Rattle.encoder.specs.Encoding.{encodeOf};
 ghost use Rattle.encoder.specs.Encodes.{CleanBlock};
 use crate::search::Search;
 use formats::format;
@@ -27,7 +27,7 @@ pub enum Encoded {
 // The telegram of the first proper pair over the front of output; refusal 4 where there is none.
 fn write_first(format: Format, block: &[u8], output: &mut [u8]) -> Encoded
     requires { ⌜ CleanBlock format (now block) (now output) ⌝ }
-    ensures { λ r. ⌜ encodeAs format (now (block .entry)) (now (output .entry)) ≡ outcome r (now (output .exit)) ⌝ }
+    ensures { λ r. ⌜ encodeOf (now (block .entry)) (now (output .entry)) ≡ outcome r (now (output .exit)) ⌝ }
 {
     let Search::Pair {
         scrambling,

@@ -9,8 +9,7 @@ use Rattle.bits.specs.Bits.{allBits}
 use Rattle.bits.proofs.Tests.{holds}
 use Rattle.formats.specs.declared.format.Format.{Format}
 use Rattle.formats.specs.Numbers.{numbersOf}
-use Rattle.encoder.specs.Encoding.{encodeAs, encodeOf}
-use Rattle.encoder.proofs.Steps.{any-block, length-refused, bits-refused, room-refused}
+use Rattle.encoder.proofs.Steps.{length-refused, bits-refused, room-refused}
 use Rattle.encoder.proofs.encode.Statement.{statement}
 use Rattle.encoder.proofs.encode.Tie as tie
 
@@ -27,16 +26,11 @@ start c = c .before .before .before .before
 abbrev format : tie.After-user-bits → Format
 format c = c .before .of-length .result
 
--- the format is that which the length picks
-picked : (c : tie.After-user-bits) →
-    encodeOf (start c .args .block .now) (start c .args .output .now) ≡ encodeAs (format c) (start c .args .block .now) (start c .args .output .now)
-picked c = any-block (format c) (start c .args .block .now) (start c .args .output .now) (c .before .of-length .ensures)
-
 returns : tie.Need-returns
 returns c =
     let a = start (c .before) .args in
-    picked (c .before)
-    ∙ length-refused (format (c .before)) (a .block .now) (a .output .now) (λ e. c .if1 .taken (e ∙ sym (c .before .user-bits .ensures)))
+    length-refused (format (c .before)) (a .block .now) (a .output .now) (c .before .before .of-length .ensures)
+    (λ e. c .if1 .taken (e ∙ sym (c .before .user-bits .ensures)))
 
 -- the length is the format's
 size : (c : tie.Else1) → length (start (c .before) .args .block .now) ≡ numbersOf (format (c .before)) .m
@@ -49,8 +43,7 @@ returns-2 : tie.Need-returns-2
 returns-2 c =
     let sized = c .before .before in
     let a = start (sized .before) .args in
-    picked (sized .before)
-    ∙ bits-refused (format (sized .before)) (a .block .now) (a .output .now) (size sized)
+    bits-refused (format (sized .before)) (a .block .now) (a .output .now) (size sized)
     (sym (c .before .all-bits .ensures) ∙ not-true _ (c .if2 .taken))
 
 -- every byte is 0 or 1
@@ -65,8 +58,7 @@ returns-3 c =
     let bits = c .before .before in
     let sized = bits .before .before in
     let a = start (sized .before) .args in
-    picked (sized .before)
-    ∙ room-refused (format (sized .before)) (a .block .now) (a .output .now) (size sized) (all bits) (omega arith)
+    room-refused (format (sized .before)) (a .block .now) (a .output .now) (size sized) (all bits) (omega arith)
 
 write-first-requires : tie.Need-write-first-requires
 write-first-requires c κs =
@@ -78,8 +70,7 @@ same-length c = search needs
 
 returns-4 : tie.Need-returns-4
 returns-4 c =
-    let call = c .before .before in
-    picked (call .before .before .before .before .before .before .before) ∙ call .write-first .ensures
+    c .before .before .write-first .ensures
 
 pub encode-spec : {M : Type 1} → statement M
 encode-spec =

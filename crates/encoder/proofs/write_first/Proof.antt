@@ -1,9 +1,6 @@
 -- `encoder::write_first` meets its contract, by those of `first_pair` and `make`. Assumes nothing.
-use mathlib.Core.Path.{sym, ap, _∙_}
-use Prim.Native.Nat.{_+_, _*_}
+use mathlib.Core.Path.{sym, _∙_}
 use borrow.Author.Needs.{needs}
-use Rattle.refusals.specs.Outcome.{outcome}
-use Rattle.encoder.specs.declared.Encoded.the-variants.{Pair}
 use Rattle.encoder.specs.Encoding.{firstPair}
 use Rattle.encoder.proofs.Pairs.{searched-pair, searched-none}
 use Rattle.encoder.proofs.Steps.{pair-given, none-refused}
@@ -58,8 +55,7 @@ returns-2 c =
     let B = pair .scrambling .given .0 .0 in
     let esb = pair .scrambling .given .0 .1 .0 in
     let first = searched-pair (firstPair (a .format) (a .block .now)) B esb (sym (call .first-pair .ensures) ∙ pair .scrambling .given .1) in
-    pair-given (a .format) (a .block .now) (a .output .now) (s .pre) B esb (first .0) (first .1)
-    ∙ ap (outcome (Pair (a .format) B esb (1024 * B + esb + 1))) (sym (made .make .ensures))
+    rw (made .make .ensures) (pair-given (a .format) (a .block .now) (a .output .now) (s .pre) B esb (first .0) (first .1))
 
 pub write-first-spec : {M : Type 1} → statement M
 write-first-spec =
