@@ -29,12 +29,11 @@ format c = c .before .of-length .result
 returns : tie.Need-returns
 returns c =
     let a = start (c .before) .args in
-    length-refused (format (c .before)) (a .block .now) (a .output .now) (c .before .before .of-length .ensures)
-    (λ e. c .if1 .taken (e ∙ sym (c .before .user-bits .ensures)))
+    length-refused (format (c .before)) (a .block .now) (a .output .now) (c .before .before .of-length .ensures) (λ e. omega arith)
 
 -- the length is the format's
 size : (c : tie.Else1) → length (start (c .before) .args .block .now) ≡ numbersOf (format (c .before)) .m
-size c = c .if1 .left ∙ c .before .user-bits .ensures
+size c = omega arith
 
 all-bits-requires : tie.Need-all-bits-requires
 all-bits-requires c κs = search needs
@@ -69,8 +68,7 @@ same-length : tie.Need-same-length
 same-length c = search needs
 
 returns-4 : tie.Need-returns-4
-returns-4 c =
-    c .before .before .write-first .ensures
+returns-4 c = c .before .before .write-first .ensures
 
 pub encode-spec : {M : Type 1} → statement M
 encode-spec =
