@@ -8,6 +8,7 @@ use native.Mathlib.Omega.{arith}
 use lib.ListN.{length, take, drop, length-drop}
 use lib.Seq.{drop-drop, take-append-le, drop-append-le}
 use Rattle.bits.specs.Bits.{numberOf, bitsOf}
+use Rattle.bits.proofs.Rest.{count-more, count-done}
 use Rattle.words.specs.Words.{wordOf}
 use Rattle.telegrams.specs.Telegram.{shaped}
 use Rattle.telegrams.specs.Fields.{isWord, allWords}
@@ -43,14 +44,11 @@ pub words-more : (k j : ℕ) (s : List ℕ) → j < k
     → allWords (k - j) (drop (11 * j) s) ≡ isWord (take 11 (drop (11 * j) s)) && allWords (k - (j + 1)) (drop (11 * (j + 1)) s)
 unfolding allWords
 words-more k j s h =
-    let left : k - j ≡ suc (k - (j + 1)) = omega arith in
     let place : 11 * j + 11 ≡ 11 * (j + 1) = omega arith in
-    ap (λ (i : ℕ). allWords i (drop (11 * j) s)) left
+    ap (λ (i : ℕ). allWords i (drop (11 * j) s)) (count-more h)
     ∙ ap (λ (l : List ℕ). isWord (take 11 (drop (11 * j) s)) && allWords (k - (j + 1)) l) (drop-drop 11 (11 * j) s ∙ ap (λ (i : ℕ). drop i s) place)
 
 -- all are tested
 pub words-done : (k j : ℕ) (s : List ℕ) → k ≤ j → allWords (k - j) s ≡ true
 unfolding allWords
-words-done k j s h =
-    let none : k - j ≡ 0 = omega arith in
-    ap (λ (i : ℕ). allWords i s) none
+words-done k j s h = ap (λ (i : ℕ). allWords i s) (count-done h)
