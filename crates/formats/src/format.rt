@@ -186,7 +186,11 @@ impl Short {
 pub fn of_length(short: usize, size: usize) -> Format
     ensures { λ r. ⌜ r ≡ formatFor short size ⌝ }
 {
-    if size == short { Format::Short } else { Format::Long }
+    if size == short {
+        Format::Short
+    } else {
+        Format::Long
+    }
 }
 
 // The format's telegram bits.
