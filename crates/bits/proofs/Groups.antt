@@ -1,8 +1,8 @@
 -- A list gone through in groups of w elements: some groups and then more, the next group, what stands after them, and groups of groups; what
 -- the groups become, its length and its bits; and groups that pass a test, or stay as they are. Assumes nothing.
 use mathlib.Core.Path.{_≡_, refl, sym, ap, ap₂, _∙_}
-use mathlib.Core.Bool.{Bool, _&&_}
-use mathlib.Core.List.{List, _++_, append-nil, append-assoc}
+use mathlib.Core.Bool.{Bool}
+use mathlib.Core.List.{List, [], _++_, append-nil, append-assoc}
 use Prim.Native.Nat.{ℕ, zero, suc, _+_, _-_, _*_, _≤_, _<_}
 use native.Mathlib.Nat.{zero-add, suc-add, add-comm, mul-zero, mul-suc}
 use native.Mathlib.Numerals.{add-one}
@@ -13,7 +13,7 @@ use lib.Seq.{take-at, drop-at, take-add, drop-drop, take-append-le, drop-append-
 use Rattle.bits.specs.Bits.{allBits}
 use Rattle.bits.specs.Groups.{overGroups, eachGroup, everyGroup}
 use Rattle.bits.proofs.AllBits.{allBits-nil, allBits-append, allBits-drop}
-use Rattle.bits.proofs.Both.{both-of}
+use Rattle.bits.proofs.And.{and-left, and-right, and-of}
 
 -- one group and k more
 one-more : (w k : ℕ) → w + w * k ≡ w * suc k
@@ -69,21 +69,12 @@ module _ (f : List ℕ → List ℕ) (w : ℕ) where
   pub groups-more : (j : ℕ) (s : List ℕ) → eachGroup f w (j + 1) s ≡ eachGroup f w j s ++ f (take w (drop (w * j) s))
   unfolding overGroups
   groups-more j s =
-      groups-add _++_ _ f w (λ a. refl) append-assoc j 1 s ∙ ap (λ (l : List ℕ). eachGroup f w j s ++ l) (append-nil (f (take w (drop (w * j) s))))
+      groups-add _++_ [] f w (λ a. refl) append-assoc j 1 s ∙ ap (λ (l : List ℕ). eachGroup f w j s ++ l) (append-nil (f (take w (drop (w * j) s))))
 
   pub groups-bits : ((s : List ℕ) → T (allBits (f s))) → (k : ℕ) (s : List ℕ) → T (allBits (eachGroup f w k s))
   unfolding overGroups
   groups-bits h zero s = allBits-nil
   groups-bits h (suc k) s = allBits-append (f (take w s)) (eachGroup f w k (drop w s)) (h (take w s)) (groups-bits h k (drop w s))
-
-  -- P of the groups that are left says that the next stays as it is
-  pub groups-stay : (P : ℕ → List ℕ → Type 0) → ((k : ℕ) (s : List ℕ) → P (suc k) s → (f (take w s) ≡ take w s) × P k (drop w s))
-      → (k : ℕ) (s : List ℕ) → P k s → eachGroup f w k s ≡ take (w * k) s
-  unfolding overGroups
-  groups-stay P next zero s p = rw mul-zero
-  groups-stay P next (suc k) s p =
-      ap₂ _++_ (next k s p .0) (groups-stay P next k (drop w s) (next k s p .1))
-      ∙ sym (take-add w (w * k) s) ∙ ap (λ (i : ℕ). take i s) (one-more w k)
 
 -- each becomes v elements
 module _ (f : List ℕ → List ℕ) (w v : ℕ) (size : (s : List ℕ) → length (f s) ≡ v) where
@@ -92,6 +83,14 @@ module _ (f : List ℕ → List ℕ) (w v : ℕ) (size : (s : List ℕ) → leng
   length-groups zero s = sym (mul-zero v)
   length-groups (suc k) s =
       length-append (f (take w s)) (eachGroup f w k (drop w s)) ∙ ap₂ _+_ (size (take w s)) (length-groups k (drop w s)) ∙ one-more v k
+
+  -- the first j of more groups, whatever stands after them
+  pub first-groups : (j k : ℕ) (s rest : List ℕ) → take (v * j) (eachGroup f w (j + k) s ++ rest) ≡ eachGroup f w j s
+  first-groups j k s rest =
+      let others = eachGroup f w k (drop (w * j) s) in
+      ap (λ (l : List ℕ). take (v * j) (l ++ rest)) (groups-add _++_ [] f w (λ a. refl) append-assoc j k s)
+      ∙ ap (take (v * j)) (append-assoc (eachGroup f w j s) others rest)
+      ∙ take-at (eachGroup f w j s) (others ++ rest) (v * j) (length-groups j s)
 
   -- what g tells of those is what g after f tells
   pub groups-of-groups : {A : Type 0} (op : A → A → A) (e : A) (g : List ℕ → A) (k : ℕ) (s rest : List ℕ)
@@ -107,11 +106,23 @@ module _ (f : List ℕ → List ℕ) (w v : ℕ) (size : (s : List ℕ) → leng
       (ap (drop v) split ∙ drop-at group others v (size (take w s)))
       ∙ ap (op (g group)) (groups-of-groups op e g k (drop w s) rest)
 
--- ---- groups of bits that all pass a test
+-- ---- groups of bits that pass a test
 
-pub every-group : (test : List ℕ → Bool) (w : ℕ) → ((s : List ℕ) → T (allBits s) → T (test (take w s)))
-    → (k : ℕ) (s : List ℕ) → T (allBits s) → T (everyGroup test w k s)
-unfolding overGroups
-every-group test w passes zero s h = tt
-every-group test w passes (suc k) s h =
-    both-of (test (take w s)) (everyGroup test w k (drop w s)) (passes s h) (every-group test w passes k (drop w s) (allBits-drop w s h))
+module _ (test : List ℕ → Bool) (w : ℕ) where
+  pub every-group : ((s : List ℕ) → T (allBits s) → T (test (take w s))) → (k : ℕ) (s : List ℕ) → T (allBits s) → T (everyGroup test w k s)
+  unfolding overGroups
+  every-group passes zero s bits = tt
+  every-group passes (suc k) s bits =
+      and-of (test (take w s)) (everyGroup test w k (drop w s)) (passes s bits) (every-group passes k (drop w s) (allBits-drop w s bits))
+
+  -- f leaves such a group as it is
+  pub groups-stay : (f : List ℕ → List ℕ) → ((s : List ℕ) → T (allBits s) → w ≤ length s → T (test (take w s)) → f (take w s) ≡ take w s)
+      → (k : ℕ) (s : List ℕ) → T (allBits s) → w * k ≤ length s → T (everyGroup test w k s) → eachGroup f w k s ≡ take (w * k) s
+  unfolding overGroups
+  groups-stay f stays zero s bits within h = rw mul-zero
+  groups-stay f stays (suc k) s bits within h =
+      let here = test (take w s) in
+      let later = everyGroup test w k (drop w s) in
+      ap₂ _++_ (stays s bits (omega arith) (and-left here later h))
+      (groups-stay f stays k (drop w s) (allBits-drop w s bits) (omega (arith, length-drop w s)) (and-right here later h))
+      ∙ sym (take-add w (w * k) s) ∙ ap (λ (i : ℕ). take i s) (one-more w k)

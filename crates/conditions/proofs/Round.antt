@@ -10,7 +10,7 @@ use native.Mathlib.Omega.{arith}
 use lib.ListN.{length, getD}
 use Rattle.bits.specs.Bits.{around}
 use Rattle.bits.proofs.Ring.{around-period}
-use Rattle.telegrams.specs.Fields.{isWord}
+use Rattle.words.specs.Words.{isWord}
 use Rattle.conditions.specs.Runs.{validWords}
 
 -- places count modulo the length
