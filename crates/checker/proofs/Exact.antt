@@ -2,13 +2,13 @@
 -- others, and each refusal number is given exactly where it is the lowest that applies. Assumes nothing.
 use Prim.Native.Nat.{ℕ}
 use mathlib.Core.Path.{_≡_, refl, sym, ap, subst, _∙_}
-use mathlib.Core.Bool.{Bool, true, false, not, _&&_}
+use mathlib.Core.Bool.{Bool, true, false, not}
 use mathlib.Core.Logic.{_↔_}
 use mathlib.Core.List.{List}
 use borrow.Author.Tests.{eqb-true, not-false}
-use lib.Dec.{T}
+use lib.Dec.{T, eqb}
 use lib.ListN.{length}
-use Rattle.bits.proofs.And.{and-left, and-right, and-of}
+use Rattle.bits.specs.Bits.{allBits, same}
 use Rattle.bits.proofs.Tests.{clash, holds, is-true}
 use Rattle.formats.specs.declared.format.Format.{Format}
 use Rattle.formats.specs.Numbers.{numbersOf}
@@ -16,8 +16,11 @@ use Rattle.refusals.specs.declared.Refusal.{Refusal}
 use Rattle.refusals.specs.Refused.{refusalNumber}
 use Rattle.refusals.specs.Table.{Verdict, refused, accepted, verdict, answerBy, RefusesBy, risesAbove}
 use Rattle.refusals.proofs.Table.{NoRow, accepted-no-row, passed, all-passed, refuses-by}
-use Rattle.telegrams.specs.Fields.{wellFormed}
+use Rattle.cyclic.specs.Check.{divisible, unturned}
+use Rattle.telegrams.specs.Telegram.{control}
+use Rattle.telegrams.specs.Fields.{controlOf, allWords}
 use Rattle.conditions.specs.Conditions.{offStepWithin, notRepeating, thinnedWithin, proper}
+use Rattle.conditions.proofs.Proper.{proper-parts, proper-from}
 use Rattle.checker.specs.declared.Checked.{Checked}
 use Rattle.checker.specs.declared.Checked.the-variants.{Proper, Refused}
 use Rattle.checker.specs.Checking.{formatOf, conditionTable, checkTable, checkAs, checkOf}
@@ -59,19 +62,24 @@ held : (t : Bool) → not t ≡ false → T t
 held t e = holds t (not-false t e)
 
 no-row-proper : (format : Format) (b : List ℕ) → NoRow (checkTable format b) → T (proper format b)
-unfolding NoRow checkTable conditionTable proper
+unfolding NoRow checkTable conditionTable
 no-row-proper format b (size, (bits, (divides, (turn, (controlled, (words, (within, (repeats, (thinned, rest))))))))) =
-    and-of _ _
-    (well-formed format b
+    let F = numbersOf format in
+    proper-from format b
     record {
-      size = eqb-true _ _ (not-false _ size);
-      bits = held _ bits;
-      divides = held _ divides;
-      turn = held _ turn;
-      has-control = held _ controlled;
-      all-words = held _ words;
-    })
-    (and-of _ _ (held _ within) (and-of _ _ (held _ repeats) (held _ thinned)))
+      well-formed = well-formed format b
+          record {
+            size = eqb-true (length b) (F .n) (not-false (eqb (length b) (F .n)) size);
+            bits = held (allBits b) bits;
+            divides = held (divisible F b) divides;
+            turn = held (unturned F b) turn;
+            has-control = held (same (controlOf F b) control) controlled;
+            all-words = held (allWords (F .words) b) words;
+          };
+      off-step = held (offStepWithin format b) within;
+      not-repeating = held (notRepeating format b) repeats;
+      thinned = held (thinnedWithin format b) thinned;
+    }
 
 accepted-proper : (format : Format) (b : List ℕ) (v : Verdict Refusal) → verdict (checkTable (formatOf b) b) ≡ v
     → answerBy Refused (Proper (formatOf b)) v ≡ Proper format → T (proper format b)
@@ -81,18 +89,16 @@ accepted-proper format b accepted e f =
     subst (λ (g : Format). T (proper g b)) same (no-row-proper (formatOf b) b (accepted-no-row (checkTable (formatOf b) b) e))
 
 proper-accepted : (format : Format) (b : List ℕ) → T (proper format b) → checkOf b ≡ Proper format
-unfolding proper conditionTable
+unfolding conditionTable
 proper-accepted format b h =
-    let conditions = and-right (wellFormed (numbersOf format) b) _ h in
-    let last = and-right (offStepWithin format b) _ conditions in
-    let form = and-left (wellFormed (numbersOf format) b) _ h in
+    let p = proper-parts format b h in
     any-bytes b
-    ∙ ap (λ (f : Format). checkAs f b) (format-is format b (formed format b form .size))
+    ∙ ap (λ (f : Format). checkAs f b) (format-is format b (formed format b (p .well-formed) .size))
     ∙ decided format b accepted
-    (form-passed format b form accepted
-    (passed (is-true (offStepWithin format b) (and-left (offStepWithin format b) _ conditions))
-    (passed (is-true (notRepeating format b) (and-left (notRepeating format b) _ last))
-    (passed (is-true (thinnedWithin format b) (and-right (notRepeating format b) _ last)) all-passed))))
+    (form-passed format b (p .well-formed) accepted
+    (passed (is-true (offStepWithin format b) (p .off-step))
+    (passed (is-true (notRepeating format b) (p .not-repeating))
+    (passed (is-true (thinnedWithin format b) (p .thinned)) all-passed))))
 
 -- the proper telegrams are accepted, and no others
 accepts : (format : Format) (b : List ℕ) → (checkOf b ≡ Proper format) ↔ T (proper format b)
