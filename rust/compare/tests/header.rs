@@ -1,7 +1,7 @@
 //! A C program against include/balise.h and the static library: its answers are
 //! those of the balise package.
 
-use balise::{Format, Reading, Refused};
+use balise::{Format, Reading, Refusal, MAX_TELEGRAM_BITS, MAX_USER_BITS};
 use compare::telegrams::telegram_of;
 use second::bits::text;
 use second::format::FORMATS;
@@ -56,7 +56,7 @@ fn format_bit(format: Format) -> u8 {
     u8::from(format == Format::Short)
 }
 
-fn reading_line(call: &str, answer: Result<Reading, Refused>) -> String {
+fn reading_line(call: &str, answer: Result<Reading, Refusal>) -> String {
     match answer {
         Ok(reading) => format!(
             "{call} 0 {} {} {} {}\n",
@@ -65,15 +65,15 @@ fn reading_line(call: &str, answer: Result<Reading, Refused>) -> String {
             reading.turn,
             u8::from(reading.flipped)
         ),
-        Err(refused) => format!("{call} {} 0 0 0 0\n", refused.number),
+        Err(refusal) => format!("{call} {} 0 0 0 0\n", refusal.number()),
     }
 }
 
 /// What the C program is to write on this capture.
 fn expected(capture: &[u8]) -> String {
-    let mut user = [0; 830];
+    let mut user = [0; MAX_USER_BITS];
     let zeros = balise::read(&[0; 462], &mut user);
-    assert_eq!(zeros.unwrap_err().number, 7);
+    assert_eq!(zeros, Err(Refusal::NoTurn));
     let mut lines = reading_line("read", zeros);
     let answer = balise::search(capture);
     lines += &reading_line("search", answer.map(|found| found.reading));
@@ -86,12 +86,9 @@ fn expected(capture: &[u8]) -> String {
     assert_eq!(reading, Ok(found.reading));
     lines += &reading_line("read", reading);
     let format = found.reading.format;
-    let (m, n) = match format {
-        Format::Long => (830, 1023),
-        Format::Short => (210, 341),
-    };
+    let (m, n) = (format.user_bits(), format.telegram_bits());
     writeln!(lines, "{}", text(&user[..m])).unwrap();
-    let mut telegram = [0; 1023];
+    let mut telegram = [0; MAX_TELEGRAM_BITS];
     let encoded = balise::encode(&user[..m], &mut telegram).expect("a pair");
     let bit = format_bit(encoded.format);
     writeln!(
@@ -104,8 +101,8 @@ fn expected(capture: &[u8]) -> String {
     let bit = format_bit(balise::check(&telegram[..n]).expect("a proper telegram"));
     writeln!(lines, "check 0 {bit}").unwrap();
     telegram[0] ^= 1;
-    let refused = balise::check(&telegram[..n]).unwrap_err();
-    writeln!(lines, "check {}", refused.number).unwrap();
+    let refusal = balise::check(&telegram[..n]).unwrap_err();
+    writeln!(lines, "check {}", refusal.number()).unwrap();
     lines
 }
 
