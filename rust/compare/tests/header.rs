@@ -2,54 +2,38 @@
 //! those of the balise package.
 
 use balise::{Format, Reading, Refusal, MAX_TELEGRAM_BITS, MAX_USER_BITS};
-use compare::telegrams::telegram_of;
+use compare::programs::{repository, run, stdout};
+use compare::telegrams::random_telegram;
 use second::bits::text;
 use second::format::FORMATS;
 use second::random::Random;
 use second::telegram::cut;
 use std::fmt::Write as _;
-use std::io::{ErrorKind, Write};
 use std::path::{Path, PathBuf};
 use std::process::{Command, Stdio};
 
-/// Builds tests/header.c; none where there is no C compiler.
-fn built() -> Option<PathBuf> {
-    let package = Path::new(env!("CARGO_MANIFEST_DIR"));
-    let root = package.join("../..");
+/// Builds tests/header.c. Cargo needs the compiler too, as its linker.
+fn built() -> PathBuf {
     let program = Path::new(env!("CARGO_TARGET_TMPDIR")).join("header");
-    let status = Command::new("cc")
+    let built = Command::new("cc")
         .args(["-std=c99", "-Wall", "-Wextra", "-Wconversion", "-pedantic"])
         .args(["-Werror", "-O1", "-I"])
-        .arg(root.join("include"))
-        .arg(package.join("tests/header.c"))
-        .arg(root.join("target/staticlib/libbalise.a"))
+        .arg(repository().join("include"))
+        .arg(repository().join("rust/compare/tests/header.c"))
+        .arg(repository().join("target/staticlib/libbalise.a"))
         .arg("-o")
         .arg(&program)
-        .status();
-    match status {
-        Err(error) if error.kind() == ErrorKind::NotFound => None,
-        status => {
-            assert!(status.expect("cc runs").success());
-            Some(program)
-        }
-    }
+        .status()
+        .expect("a C compiler, cc");
+    assert!(built.success());
+    program
 }
 
-fn run(program: &Path, input: &[u8]) -> String {
-    let mut child = Command::new(program)
-        .stdin(Stdio::piped())
-        .stdout(Stdio::piped())
-        .spawn()
-        .expect("the program runs");
-    child
-        .stdin
-        .take()
-        .expect("a pipe")
-        .write_all(input)
-        .expect("it reads");
-    let output = child.wait_with_output().expect("an output");
-    assert!(output.status.success());
-    String::from_utf8(output.stdout).expect("text")
+/// What the program writes on this capture.
+fn written(program: &Path, capture: &[u8]) -> String {
+    let ran = run(&mut Command::new(program), Stdio::piped(), capture);
+    assert!(ran.status.success());
+    stdout(&ran)
 }
 
 fn format_bit(format: Format) -> u8 {
@@ -108,18 +92,15 @@ fn expected(capture: &[u8]) -> String {
 
 #[test]
 fn c_program() {
-    let Some(program) = built() else {
-        println!("skipped: there is no cc");
-        return;
-    };
+    let program = built();
     let mut random = Random::new(91);
     for format in FORMATS {
-        let telegram = telegram_of(&random.bits(format.user_bits()));
+        let telegram = random_telegram(&mut random, format);
         for flipped in [false, true] {
             let turn = random.below(telegram.len());
             let noise = random.bits(700);
             let capture = [noise, cut(&telegram, turn, 3000, flipped)].concat();
-            let output = run(&program, &capture);
+            let output = written(&program, &capture);
             assert_eq!(output, expected(&capture));
             assert!(output.contains("\ncheck 0 "));
         }
@@ -131,6 +112,6 @@ fn c_program() {
         random.bits(7501),
         vec![0; 462],
     ] {
-        assert_eq!(run(&program, &capture), expected(&capture));
+        assert_eq!(written(&program, &capture), expected(&capture));
     }
 }
