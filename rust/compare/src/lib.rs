@@ -80,3 +80,10 @@ pub fn other_lengths(random: &mut Random, lengths: [usize; 2]) -> Vec<Vec<u8>> {
     }
     lists
 }
+
+/// Changes some of these bits.
+pub fn burst(random: &mut Random, bits: &mut [u8]) {
+    for bit in bits {
+        *bit ^= random.bits(1)[0];
+    }
+}

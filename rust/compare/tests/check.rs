@@ -3,7 +3,7 @@
 
 use compare::calls::{check, Tally};
 use compare::telegrams::*;
-use compare::{both_formats, other_lengths, patterns};
+use compare::{both_formats, burst, other_lengths, patterns};
 use second::appendices::appendix_b;
 use second::bits::{bits_of, flip, turn_left};
 use second::cyclic::remainder_by_g;
@@ -64,11 +64,9 @@ fn changed(tally: &mut Tally, random: &mut Random, format: Format) {
         for other in random.places(1 + place % 4, n) {
             more[other] ^= 1;
         }
-        let mut burst = one;
-        for bit in &mut burst[place..n.min(place + 75)] {
-            *bit ^= random.bits(1)[0];
-        }
-        compare(tally, [more, burst]);
+        let mut many = one;
+        burst(random, &mut many[place..n.min(place + 75)]);
+        compare(tally, [more, many]);
     }
 }
 

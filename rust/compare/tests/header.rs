@@ -1,7 +1,7 @@
 //! A C program against include/balise.h and the static library: its answers are
 //! those of the balise package.
 
-use balise::{Format, Reading, Refusal, MAX_TELEGRAM_BITS, MAX_USER_BITS};
+use balise::{Format, Reading, Refusal, CAPTURE_LIMIT, MAX_TELEGRAM_BITS, MAX_USER_BITS};
 use compare::programs::{repository, run, stdout};
 use compare::telegrams::random_telegram;
 use second::bits::text;
@@ -53,12 +53,23 @@ fn reading_line(call: &str, answer: Result<Reading, Refusal>) -> String {
     }
 }
 
+fn sizes() -> String {
+    let mut lines = String::new();
+    for format in Format::ALL {
+        let (m, n) = (format.user_bits(), format.telegram_bits());
+        writeln!(lines, "sizes {m} {n} {}", format.window_bits()).unwrap();
+    }
+    writeln!(lines, "limit {CAPTURE_LIMIT}").unwrap();
+    lines
+}
+
 /// What the C program is to write on this capture.
 fn expected(capture: &[u8]) -> String {
     let mut user = [0; MAX_USER_BITS];
     let zeros = balise::read(&[0; 462], &mut user);
     assert_eq!(zeros, Err(Refusal::NoTurn));
-    let mut lines = reading_line("read", zeros);
+    let mut lines = sizes();
+    lines += &reading_line("read", zeros);
     let answer = balise::search(capture);
     lines += &reading_line("search", answer.map(|found| found.reading));
     let place = answer.map_or(0, |found| found.place);

@@ -4,7 +4,7 @@
 
 use compare::calls::{check, encode, read, search, Tally};
 use compare::telegrams::*;
-use compare::{asked, patterns};
+use compare::{asked, burst, patterns};
 use second::appendices::appendix_b;
 use second::bits::all_bits;
 use second::encode_skipping;
@@ -116,11 +116,7 @@ impl Inputs {
                 0..=4 if place < list.len() => list[place] ^= 1,
                 5 | 6 => list.insert(place, self.random.bits(1)[0]),
                 7 | 8 if place < list.len() => drop(list.remove(place)),
-                9 => {
-                    for bit in &mut list[place..end] {
-                        *bit ^= self.random.bits(1)[0];
-                    }
-                }
+                9 => burst(&mut self.random, &mut list[place..end]),
                 10 => drop(list.drain(place..end)),
                 11 if place < list.len() && self.one_in(2) => {
                     list[place] = self.random.number() as u8;

@@ -3,7 +3,7 @@
 
 use compare::calls::{read, Tally};
 use compare::telegrams::*;
-use compare::{other_lengths, patterns};
+use compare::{burst, other_lengths, patterns};
 use second::appendices::appendix_b;
 use second::bits::bits_of;
 use second::format::{Format, FORMATS};
@@ -103,11 +103,9 @@ fn changed(tally: &mut Tally, random: &mut Random, format: Format) {
                     }
                 }
                 compare(tally, random, &more);
-                let mut burst = one;
-                for bit in &mut burst[place..(n + r).min(place + 75)] {
-                    *bit ^= random.bits(1)[0];
-                }
-                compare(tally, random, &burst);
+                let mut many = one;
+                burst(random, &mut many[place..(n + r).min(place + 75)]);
+                compare(tally, random, &many);
             }
         }
     }
