@@ -1,10 +1,11 @@
 //! Plain Rust's check and read against the proved calls and the second program.
 
-use crate::plain::{check, read};
+use crate::plain::{check, condition_3, read};
 use compare::calls::{self, Tally};
 use compare::refusals::{provoking, Call};
 use compare::telegrams::*;
 use second::bits::{flip, turn_left};
+use second::conditions;
 use second::format::{Format, FORMATS};
 use second::random::Random;
 use second::telegram::{cut, well_formed};
@@ -86,4 +87,16 @@ fn answers_are_those_of_the_proved_calls() {
     assert_eq!(checked.numbers(), [0, 1, 2, 6, 7, 8, 9, 10, 11, 12]);
     windows.print("windows read by plain Rust, by number");
     assert_eq!(windows.numbers(), [0, 1, 2, 3, 5, 6, 7, 8, 9]);
+}
+
+#[test]
+fn condition_3_agrees_on_bits_that_repeat() {
+    let mut random = Random::new(5);
+    for round in 0..2000 {
+        let bits = repeating_bits(&mut random, round % 6);
+        assert_eq!(
+            condition_3(Format::Long, &bits),
+            conditions::condition_3(&bits, Format::Long)
+        );
+    }
 }

@@ -7,6 +7,7 @@ use second::bits::{flip, turn_left};
 use second::encode::PAIRS;
 use second::format::{Format, FORMATS};
 use second::random::Random;
+use second::refusal;
 use second::telegram::cut;
 
 /// A call with its input, and the length of the output that it is lent.
@@ -104,13 +105,13 @@ fn not_well_formed(random: &mut Random, format: Format) -> Vec<(Refusal, Call)> 
 /// Well-formed telegrams that one condition bars: refusals 10 to 12.
 fn barred_telegrams(random: &mut Random) -> Vec<(Refusal, Call)> {
     let draws = [
-        (Refusal::OffStep, one_word as Draw),
-        (Refusal::Repeating, repeating_words),
-        (Refusal::Thinned, thinning_words),
+        (Refusal::OffStep, one_word as Draw, refusal::OFF_STEP),
+        (Refusal::Repeating, repeating_words, refusal::PERIOD),
+        (Refusal::Thinned, thinning_words, refusal::THINNED),
     ];
     draws
-        .map(|(refusal, draw)| {
-            let telegram = barred(random, Format::Long, draw, refusal.number());
+        .map(|(refusal, draw, number)| {
+            let telegram = barred(random, Format::Long, draw, number);
             (refusal, Call::Check(telegram))
         })
         .into()

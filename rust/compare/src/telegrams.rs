@@ -109,6 +109,21 @@ pub fn repeating_words(random: &mut Random) -> Vec<u16> {
     shaped
 }
 
+/// Bits of a long telegram of which some stand again about a third of the way
+/// round, with so many changes.
+pub fn repeating_bits(random: &mut Random, changes: usize) -> Vec<u8> {
+    let n = Format::Long.telegram_bits();
+    let mut bits = random.bits(n);
+    let (from, shift) = (random.below(n), 338 + random.below(7));
+    for j in 0..8 + random.below(36) {
+        bits[(from + shift + j) % n] = bits[(from + j) % n];
+    }
+    for _ in 0..changes {
+        bits[random.below(n)] ^= 1;
+    }
+    bits
+}
+
 /// A proper long telegram, and a turn at which the first and the last 121 bits
 /// of a window of 462 differ in 15 places: of eleven words every second stands
 /// again 341 bits later, and between them stand words with three other bits.

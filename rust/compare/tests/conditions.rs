@@ -2,6 +2,7 @@
 //! limit, and bits that repeat after a third of the telegram.
 
 use compare::long;
+use compare::telegrams::repeating_bits;
 use second::conditions::{
     condition_2, condition_3, condition_4, off_step, off_step_limit, unthinned, Course, THINNED_RUN,
 };
@@ -99,17 +100,9 @@ fn condition_4_agrees_at_its_limit() {
 #[test]
 fn condition_3_agrees_on_bits_that_repeat() {
     let mut random = Random::new(24);
-    let n = Format::Long.telegram_bits();
     let (mut holds, mut fails) = (0, 0);
     for round in 0..600 {
-        let mut telegram = random.bits(n);
-        let (from, shift) = (random.below(n), 338 + random.below(7));
-        for j in 0..8 + random.below(36) {
-            telegram[(from + shift + j) % n] = telegram[(from + j) % n];
-        }
-        for _ in 0..round % 6 {
-            telegram[random.below(n)] ^= 1;
-        }
+        let telegram = repeating_bits(&mut random, round % 6);
         let expected = condition_3(&telegram, Format::Long);
         assert_eq!(layers::not_repeating(true, &telegram), expected);
         holds += usize::from(expected);
