@@ -13,7 +13,7 @@
  *     the length at most PTRDIFF_MAX;
  *   - that an output overlaps no input;
  *   - that no other thread writes a buffer, or reads an output, during a call.
- * That these declarations and fields are those of the library's source,
+ * That these declarations, fields and numbers are those of the library's source,
  * crates/balise/src/lib.rt and specs/AsNumber.antt, is tested and not proved.
  */
 #ifndef BALISE_H
