@@ -2,4 +2,3 @@ pub mod Windows
 pub mod Reads
 pub mod CutFrom
 pub mod ReadsExactly
-pub mod AllWords
