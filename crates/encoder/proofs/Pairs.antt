@@ -1,12 +1,9 @@
--- The pairs one after the other (document 01, "Search, reading and place"): the answer of the search is that of the pairs not yet tried, and
--- a pair passes if the telegram made from it passes the tests that are left. Assumes nothing.
+-- The pairs in counting order (document 01, "Search, reading and place"): the pair B, esb stands at place 1024 * B + esb. Assumes nothing.
 use mathlib.Core.Path.{_≡_, refl, sym, ap, ap₂, _∙_}
-use mathlib.Core.Bool.{Bool, true, false}
 use mathlib.Core.List.{List}
-use Prim.Native.Nat.{ℕ, suc, _+_, _-_, _*_, _/_, _%_, _≤_, _<_}
+use Prim.Native.Nat.{ℕ, _+_, _*_, _/_, _%_, _<_}
 use native.Mathlib.Omega.{arith}
-use Rattle.bits.specs.Search.{First, found, none, firstOf}
-use Rattle.bits.proofs.First.{first-none, first-here, first-later}
+use Rattle.bits.specs.Search.{First, found, none}
 use Rattle.bits.proofs.Tests.{clash}
 use Rattle.formats.specs.declared.format.Format.{Format}
 use Rattle.formats.specs.Numbers.{numbersOf}
@@ -19,43 +16,6 @@ use Rattle.encoder.specs.declared.search.Search.the-variants.{Pair, Noth
 use Rattle.encoder.specs.Encoding.{telegramAt, passes, written}
 use Rattle.encoder.specs.Encodes.{wrotePair}
 use Rattle.encoder.specs.Searched.{madeProper, pairOf}
-
--- ---- the search
-
--- of k numbers those before p have failed: the answer is that of the numbers from p on
-pub record Left (test : ℕ → Bool) (answer : First) (k p : ℕ) : Type 0 where
-  pub within : p ≤ k
-  pub rest : answer ≡ firstOf test p (k - p)
-
-pub left-all : (test : ℕ → Bool) (k : ℕ) → Left test (firstOf test 0 k) k 0
-left-all test k =
-    let all : k ≡ k - 0 = omega arith in
-    record { within = omega arith; rest = ap (firstOf test 0) all }
-
-module _ {test : ℕ → Bool} {answer : First} {k p : ℕ} (l : Left test answer k p) where
-  -- p is the next of them
-  next : p < k → answer ≡ firstOf test p (suc (k - (p + 1)))
-  next h =
-      let one : k - p ≡ suc (k - (p + 1)) = omega arith in
-      l .rest ∙ ap (firstOf test p) one
-
-  pub left-fewer : p < k → test p ≡ false → Left test answer k (p + 1)
-  left-fewer h e =
-      let after : suc p ≡ p + 1 = omega arith in
-      record {
-        within = omega arith;
-        rest = next h ∙ first-later test p (k - (p + 1)) e ∙ ap (λ (i : ℕ). firstOf test i (k - (p + 1))) after;
-      }
-
-  pub left-found : p < k → test p ≡ true → answer ≡ found p
-  left-found h e = next h ∙ first-here test p (k - (p + 1)) e
-
-  pub left-none : k ≤ p → answer ≡ none
-  left-none h =
-      let done : k - p ≡ 0 = omega arith in
-      l .rest ∙ ap (firstOf test p) done ∙ first-none test p
-
--- ---- the pair of B and esb
 
 module _ (B esb : ℕ) (below : esb < 1024) where
   pair-scrambling : (1024 * B + esb) / 1024 ≡ B
