@@ -1,11 +1,10 @@
 -- What unshaping some words answers (document 01, "When the bench says no", refusal 9).
 -- Assumes nothing.
 use mathlib.Core.Bool.{Bool, true, false}
-use Rattle.formats.specs.declared.refusal.Refusal.the-variants.{NotWord}
 use Rattle.reader.specs.declared.unshaping.Unshaped.{Unshaped}
-use Rattle.reader.specs.declared.unshaping.Unshaped.the-variants.{Whole, Refused}
+use Rattle.reader.specs.declared.unshaping.Unshaped.the-variants.{Whole, NotWord}
 
 -- whole where every word is in the table
 abbrev pub wholeIf : Bool → Unshaped
 wholeIf true = Whole
-wholeIf false = Refused NotWord
+wholeIf false = NotWord

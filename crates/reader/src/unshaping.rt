@@ -7,13 +7,12 @@ ghost use lib.ListN.{length, drop};
 ghost use Rattle.bits.specs.Bits.{allBits};
 ghost use Rattle.telegrams.specs.Fields.{allWords, unshaped};
 ghost use Rattle.reader.specs.AllWords.{wholeIf};
-use formats::refusal::Refusal;
 use words::Lookup;
 
 // What unshaping answers.
 pub enum Unshaped {
     Whole,
-    Refused(Refusal),
+    NotWord,
 }
 
 // The ten bits of the number of each of the first k words, over the front of out; refused at the first word that is not in the table.
@@ -28,7 +27,7 @@ pub fn unshape(telegram: &[u8], k: usize, out: &mut [u8]) -> Unshaped
     while j < k {
         let word = bits::number(telegram, 11 * j, 11);
         let Lookup::Number(i) = words::look_up(word as u16) else {
-            return Unshaped::Refused(Refusal::NotWord);
+            return Unshaped::NotWord;
         };
         let at = 10 * j;
         bits::write_number(&mut out[at..], 10, i as u32);
