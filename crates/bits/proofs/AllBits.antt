@@ -5,7 +5,7 @@ use native.Mathlib.Omega.{arith}
 use lib.Dec.{T, ltb, ltb→lt, lt→ltb, lit<}
 use lib.ListN.{getD, take, drop}
 use Rattle.bits.specs.Bits.{allBits, bitsOf}
-use Rattle.bits.proofs.Both.{both-left, both-right, both-of}
+use Rattle.bits.proofs.And.{and-left, and-right, and-of}
 
 pub allBits-nil : T (allBits [])
 unfolding allBits
@@ -13,15 +13,15 @@ allBits-nil = tt
 
 pub allBits-cons : (b : ℕ) (s : List ℕ) → b < 2 → T (allBits s) → T (allBits (b ∷ s))
 unfolding allBits
-allBits-cons b s h k = both-of (ltb b 2) (allBits s) (lt→ltb b 2 h) k
+allBits-cons b s h k = and-of (ltb b 2) (allBits s) (lt→ltb b 2 h) k
 
 pub allBits-head : (b : ℕ) (s : List ℕ) → T (allBits (b ∷ s)) → b < 2
 unfolding allBits
-allBits-head b s h = ltb→lt b 2 (both-left (ltb b 2) (allBits s) h)
+allBits-head b s h = ltb→lt b 2 (and-left (ltb b 2) (allBits s) h)
 
 pub allBits-tail : (b : ℕ) (s : List ℕ) → T (allBits (b ∷ s)) → T (allBits s)
 unfolding allBits
-allBits-tail b s h = both-right (ltb b 2) (allBits s) h
+allBits-tail b s h = and-right (ltb b 2) (allBits s) h
 
 -- the element at any place, and 0 past the end
 pub allBits-getD : (s : List ℕ) (i : ℕ) → T (allBits s) → getD s i 0 < 2

@@ -5,7 +5,7 @@ use mathlib.Core.Bool.{true, false}
 use mathlib.Core.List.{List, [], _∷_}
 use lib.Dec.{T, eqb, eqb→eq, eqb-refl}
 use Rattle.bits.specs.Bits.{same}
-use Rattle.bits.proofs.Both.{both-left, both-right, both-of}
+use Rattle.bits.proofs.And.{and-left, and-right, and-of}
 use Rattle.bits.proofs.Tests.{is-true, is-false, holds}
 
 -- two lists that pass the test `same` are equal
@@ -15,13 +15,13 @@ same-equal [] [] h = refl
 same-equal [] (b ∷ v) h = absurd h
 same-equal (a ∷ u) [] h = absurd h
 same-equal (a ∷ u) (b ∷ v) h =
-    ap₂ {C = List ℕ} (λ x r. x ∷ r) (eqb→eq a b (both-left (eqb a b) (same u v) h)) (same-equal u v (both-right (eqb a b) (same u v) h))
+    ap₂ {C = List ℕ} (λ x r. x ∷ r) (eqb→eq a b (and-left (eqb a b) (same u v) h)) (same-equal u v (and-right (eqb a b) (same u v) h))
 
 -- and a list passes it with itself
 pub same-refl : (u : List ℕ) → T (same u u)
 unfolding same
 same-refl [] = tt
-same-refl (a ∷ u) = both-of (eqb a a) (same u u) (eqb-refl a) (same-refl u)
+same-refl (a ∷ u) = and-of (eqb a a) (same u u) (eqb-refl a) (same-refl u)
 
 pub same-of : (u v : List ℕ) → u ≡ v → T (same u v)
 same-of u v e = subst (λ (x : List ℕ). T (same u x)) e (same-refl u)

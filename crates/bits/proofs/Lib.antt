@@ -1,5 +1,5 @@
 pub mod AllBits
-pub mod Both
+pub mod And
 pub mod Differences
 pub mod Equal
 pub mod First

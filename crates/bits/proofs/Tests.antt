@@ -1,11 +1,10 @@
--- Tests as values: a test that holds is true, one that fails is false, and two that hold together are one; different answers clash.
+-- Tests as values: a test that holds is true, one that fails is false, and two that follow from each other are equal; different answers clash.
 -- Assumes nothing.
 use mathlib.Core.Path.{_≡_, refl, sym, subst}
 use mathlib.Core.Bool.{Bool, true, false}
 use Prim.Native.Nat.{ℕ}
 use native.Mathlib.Omega.{arith}
 use lib.Dec.{T}
-use Rattle.bits.specs.Bits.{both}
 
 pub is-true : (t : Bool) → T t → t ≡ true
 is-true true h = refl
@@ -25,10 +24,6 @@ fails t e h = subst T e h
 pub tests-agree : (s t : Bool) → (T s → T t) → (T t → T s) → s ≡ t
 tests-agree true t p q = sym (is-true t (p tt))
 tests-agree false t p q = sym (is-false t q)
-
-pub both-assoc : (a b c : Bool) → both (both a b) c ≡ both a (both b c)
-both-assoc true b c = refl
-both-assoc false b c = refl
 
 -- where two different answers are equal, so are 0 and 1, by `cc`: that cannot be
 pub clash : {A : Type 0} → _≡_ {A = ℕ} 0 1 → A

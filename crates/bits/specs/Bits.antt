@@ -1,27 +1,22 @@
 -- Bits, one to a byte, earliest sent first (document 01, "What the bench takes in").
 -- Assumes nothing.
 use Prim.Native.Nat.{ℕ, zero, suc, _+_, _-_, _*_, _/_, _%_, _^_}
-use mathlib.Core.Bool.{Bool, true, false}
+use mathlib.Core.Bool.{Bool, true, false, _&&_}
 use mathlib.Core.List.{List, [], _∷_}
 use lib.Dec.{eqb, ltb}
 use lib.ListN.{length, getD}
 
--- both tests hold
-abbrev pub both : Bool → Bool → Bool
-both true b = b
-both false b = false
-
 -- every byte is 0 or 1 (document 01, refusal 2)
 unfoldable pub allBits : List ℕ → Bool
 allBits [] = true
-allBits (b ∷ s) = both (ltb b 2) (allBits s)
+allBits (b ∷ s) = ltb b 2 && allBits s
 
 -- the two lists are the same
 unfoldable pub same : List ℕ → List ℕ → Bool
 same [] [] = true
 same [] (b ∷ v) = false
 same (a ∷ u) [] = false
-same (a ∷ u) (b ∷ v) = both (eqb a b) (same u v)
+same (a ∷ u) (b ∷ v) = eqb a b && same u v
 
 -- the number whose binary digits are those of a and then the bits of s
 unfoldable pub numberFrom : ℕ → List ℕ → ℕ

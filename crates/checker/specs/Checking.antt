@@ -29,6 +29,14 @@ checkedValues (Refused refusal) = refusalNumber refusal ∷ []
 abbrev pub formatOf : List ℕ → Format
 formatOf b = formatFor (short .n) (length b)
 
+-- when refusals 10, 11 and 12 apply: condition 2, 3 or 4 fails
+unfoldable pub conditionTable : Format → List ℕ → List (Row Refusal)
+conditionTable format b =
+    OffStep when not (offStep format b)
+    ∷ Repeating when not (notRepeating format b)
+    ∷ Thinned when not (thinnedOut format b)
+    ∷ []
+
 -- when each refusal applies to bytes that are to be the format's telegram
 unfoldable pub checkTable : Format → List ℕ → List (Row Refusal)
 checkTable format b =
@@ -39,10 +47,7 @@ checkTable format b =
     ∷ NoTurn when not (unturned F b)
     ∷ Control when not (same (controlOf F b) control)
     ∷ NotWord when not (allWords (F .words) b)
-    ∷ OffStep when not (offStep format b)
-    ∷ Repeating when not (notRepeating format b)
-    ∷ Thinned when not (thinnedOut format b)
-    ∷ []
+    ∷ conditionTable format b
 
 unfoldable pub checkAs : Format → List ℕ → Checked
 checkAs format b = answerBy Refused (Proper format) (verdict (checkTable format b))

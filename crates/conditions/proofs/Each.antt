@@ -1,13 +1,12 @@
 -- A test that holds of each of k numbers: of each by itself, and in a loop that tests one after the other. Assumes nothing.
 use mathlib.Core.Path.{_≡_, refl, sym, ap, _∙_, subst}
-use mathlib.Core.Bool.{Bool, true, false}
+use mathlib.Core.Bool.{Bool, true, false, _&&_}
 use Prim.Native.Nat.{ℕ, zero, suc, _+_, _-_, _≤_, _<_}
 use native.Mathlib.Nat.{add-zero, le-of-suc-le-suc}
 use native.Mathlib.Numerals.{add-one}
 use native.Mathlib.Omega.{arith}
 use lib.Dec.{T}
-use Rattle.bits.specs.Bits.{both}
-use Rattle.bits.proofs.Both.{both-left, both-right}
+use Rattle.bits.proofs.And.{and-left, and-right}
 use Rattle.conditions.specs.Conditions.{each}
 
 -- where it holds of each it holds of the j-th
@@ -15,10 +14,10 @@ pub each-at : (test : ℕ → Bool) (i k j : ℕ) → T (each test i k) → j < 
 unfolding each
 each-at test i zero j t h = absurd (omega arith)
 each-at test i (suc k) zero t h =
-    subst (λ (x : ℕ). T (test x)) (sym (add-zero i)) (both-left (test i) (each test (suc i) k) t)
+    subst (λ (x : ℕ). T (test x)) (sym (add-zero i)) (and-left (test i) (each test (suc i) k) t)
 each-at test i (suc k) (suc j) t h =
     let place : suc i + j ≡ i + suc j = omega arith in
-    subst (λ (x : ℕ). T (test x)) place (each-at test (suc i) k j (both-right (test i) (each test (suc i) k) t) (le-of-suc-le-suc h))
+    subst (λ (x : ℕ). T (test x)) place (each-at test (suc i) k j (and-right (test i) (each test (suc i) k) t) (le-of-suc-le-suc h))
 
 -- two tests that agree
 pub each-same : (s t : ℕ → Bool) (i k : ℕ) → ((j : ℕ) → s j ≡ t j) → each s i k ≡ each t i k
@@ -27,7 +26,7 @@ each-same s t i zero e = refl
 each-same s t i (suc k) e = rw (e i, each-same s t (suc i) k e)
 
 -- one number is next, and the rest after it
-pub each-more : (test : ℕ → Bool) (i e : ℕ) → i < e → each test i (e - i) ≡ both (test i) (each test (i + 1) (e - (i + 1)))
+pub each-more : (test : ℕ → Bool) (i e : ℕ) → i < e → each test i (e - i) ≡ test i && each test (i + 1) (e - (i + 1))
 unfolding each
 each-more test i e h =
     let count : e - i ≡ suc (e - (i + 1)) = omega arith in
@@ -54,12 +53,12 @@ passed-none test i k =
 -- the next passes
 pub passed-more : {test : ℕ → Bool} {whole : Bool} {i e : ℕ} → Passed test whole i e → i < e → test i ≡ true → Passed test whole (i + 1) e
 passed-more {test} {i} {e} p h t =
-    record { within = omega arith; rest = p .rest ∙ each-more test i e h ∙ ap (λ (x : Bool). both x (each test (i + 1) (e - (i + 1)))) t }
+    record { within = omega arith; rest = p .rest ∙ each-more test i e h ∙ ap (λ (x : Bool). x && each test (i + 1) (e - (i + 1))) t }
 
 -- the next fails, and so does the whole
 pub passed-fails : {test : ℕ → Bool} {whole : Bool} {i e : ℕ} → Passed test whole i e → i < e → test i ≡ false → false ≡ whole
 passed-fails {test} {i} {e} p h t =
-    sym (p .rest ∙ each-more test i e h ∙ ap (λ (x : Bool). both x (each test (i + 1) (e - (i + 1)))) t)
+    sym (p .rest ∙ each-more test i e h ∙ ap (λ (x : Bool). x && each test (i + 1) (e - (i + 1))) t)
 
 -- all have passed
 pub passed-done : {test : ℕ → Bool} {whole : Bool} {i e : ℕ} → Passed test whole i e → e ≤ i → true ≡ whole

@@ -2,11 +2,11 @@
 -- at place n-1-i of the list, and the strip from b(n-1-p) rightward starts at place p.
 -- Assumes nothing.
 use Prim.Native.Nat.{ℕ, zero, suc, _+_, _-_, _*_, _%_, _^_}
-use mathlib.Core.Bool.{Bool, true, cond}
+use mathlib.Core.Bool.{Bool, true, cond, _&&_}
 use mathlib.Core.List.{List, [], _∷_}
 use lib.Dec.{eqb, leb}
 use lib.ListN.{length, getD}
-use Rattle.bits.specs.Bits.{both, around}
+use Rattle.bits.specs.Bits.{around}
 use Rattle.bits.specs.Differences.{differences}
 use Rattle.formats.specs.declared.format.Format.{Format}
 use Rattle.formats.specs.declared.format.Format.the-variants.{Long, Short}
@@ -17,7 +17,7 @@ use Rattle.conditions.specs.Runs.{validWords, longest, longestRound}
 -- the test holds of each of k numbers from i on
 unfoldable pub each : (ℕ → Bool) → ℕ → ℕ → Bool
 each test i zero = true
-each test i (suc k) = both (test i) (each test (suc i) k)
+each test i (suc k) = test i && each test (suc i) k
 
 -- condition 2. At most 2 valid words in a run for p = 1 and 10; otherwise 10 long, 6 short
 abbrev pub offStepLimit : Format → ℕ
@@ -31,8 +31,8 @@ limitAt format p = cond (eqb p 1) 2 (cond (eqb p 10) 2 (offStepLimit format))
 unfoldable pub offStepAt : Format → List ℕ → ℕ → Bool
 offStepAt format b p = leb (longest (validWords (numbersOf format .words - 1) p b)) (limitAt format p)
 
-unfoldable pub offStep : Format → List ℕ → Bool
-offStep format b = each (offStepAt format b) 1 10
+unfoldable pub offStepWithin : Format → List ℕ → Bool
+offStepWithin format b = each (offStepAt format b) 1 10
 
 -- condition 3. The 22 bits from place p and those from place q differ in at least d places
 unfoldable pub apart : ℕ → List ℕ → ℕ → ℕ → Bool
@@ -41,9 +41,9 @@ apart d b p q = leb d (differences (around 22 p b) (around 22 q b))
 -- at word j: at least 3 from the bits 341 on, and at least 2 from those 338 to 344 on otherwise
 unfoldable pub shiftedApart : List ℕ → ℕ → Bool
 shiftedApart b j =
-    both (apart 3 b (11 * j) (11 * j + 341))
-    (both (each (λ (k : ℕ). apart 2 b (11 * j) (11 * j + k)) 338 3)
-    (each (λ (k : ℕ). apart 2 b (11 * j) (11 * j + k)) 342 3))
+    apart 3 b (11 * j) (11 * j + 341)
+    && (each (λ (k : ℕ). apart 2 b (11 * j) (11 * j + k)) 338 3
+    && each (λ (k : ℕ). apart 2 b (11 * j) (11 * j + k)) 342 3)
 
 unfoldable pub notRepeating : Format → List ℕ → Bool
 notRepeating Long b = each (shiftedApart b) 0 (numbersOf Long .words)
@@ -64,10 +64,10 @@ thinnedAt format v a = leb (longestRound (validWords (numbersOf format .words) a
 unfoldable pub thinnedBy : Format → List ℕ → ℕ → Bool
 thinnedBy format b k = each (thinnedAt format (thinned k b)) 0 11
 
-unfoldable pub thinnedOut : Format → List ℕ → Bool
-thinnedOut format b = each (thinnedBy format b) 1 4
+unfoldable pub thinnedWithin : Format → List ℕ → Bool
+thinnedWithin format b = each (thinnedBy format b) 1 4
 
 -- well-formed, and conditions 2, 3 and 4
 unfoldable pub proper : Format → List ℕ → Bool
 proper format b =
-    both (wellFormed (numbersOf format) b) (both (offStep format b) (both (notRepeating format b) (thinnedOut format b)))
+    wellFormed (numbersOf format) b && (offStepWithin format b && (notRepeating format b && thinnedWithin format b))

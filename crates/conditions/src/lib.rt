@@ -1,11 +1,12 @@
 // Conditions 2, 3 and 4 of a proper telegram (document 01, "Four conditions of a proper telegram").
 // A telegram is b(n-1) to b0, one bit to a byte: b(i) stands at place n-1-i of the slice.
 ghost use mathlib.Core.Path.{_≡_};
+ghost use mathlib.Core.Bool.{_&&_};
 ghost use lib.Dec.{T};
 ghost use lib.ListN.{length};
-ghost use Rattle.bits.specs.Bits.{both, allBits};
+ghost use Rattle.bits.specs.Bits.{allBits};
 ghost use Rattle.formats.specs.Numbers.{numbersOf};
-ghost use Rattle.conditions.specs.Conditions.{offStep, notRepeating, thinnedOut};
+ghost use Rattle.conditions.specs.Conditions.{offStepWithin, notRepeating, thinnedWithin};
 use formats::format::Format;
 
 pub mod off_step;
@@ -17,13 +18,13 @@ pub mod thinned;
 // Whether conditions 2, 3 and 4 hold.
 pub fn conditions(format: Format, b: &[u8]) -> bool
     requires { ⌜ T (allBits (now b)) × (length (now b) ≡ numbersOf format .n) ⌝ }
-    ensures { λ r. ⌜ r ≡ both (offStep format (now (b .entry))) (both (notRepeating format (now (b .entry))) (thinnedOut format (now (b .entry)))) ⌝ }
+    ensures { λ r. ⌜ r ≡ offStepWithin format (now (b .entry)) && (notRepeating format (now (b .entry)) && thinnedWithin format (now (b .entry))) ⌝ }
 {
-    if !off_step::off_step(format, b) {
+    if !off_step::within(format, b) {
         return false;
     }
     if !repeating::not_repeating(format, b) {
         return false;
     }
-    thinned::thinned_out(format, b)
+    thinned::within(format, b)
 }

@@ -4,7 +4,7 @@ ghost use lib.Dec.{T};
 ghost use lib.ListN.{length};
 ghost use Rattle.bits.specs.Bits.{allBits};
 ghost use Rattle.formats.specs.Numbers.{numbersOf};
-ghost use Rattle.conditions.specs.Conditions.{limitAt, offStep};
+ghost use Rattle.conditions.specs.Conditions.{limitAt, offStepWithin};
 use crate::run;
 use formats::format;
 use formats::format::Format;
@@ -26,9 +26,9 @@ fn limit_at(format: Format, p: usize) -> usize
 }
 
 // Whether condition 2 holds. On the straight strip one word fewer fits off step.
-pub fn off_step(format: Format, b: &[u8]) -> bool
+pub fn within(format: Format, b: &[u8]) -> bool
     requires { ⌜ T (allBits (now b)) × (length (now b) ≡ numbersOf format .n) ⌝ }
-    ensures { λ r. ⌜ r ≡ offStep format (now (b .entry)) ⌝ }
+    ensures { λ r. ⌜ r ≡ offStepWithin format (now (b .entry)) ⌝ }
 {
     let count = format::words(format) - 1;
     for p in 1..11 {

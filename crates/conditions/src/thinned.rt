@@ -6,7 +6,7 @@ ghost use lib.Dec.{T};
 ghost use lib.ListN.{length, drop};
 ghost use Rattle.bits.specs.Bits.{allBits};
 ghost use Rattle.formats.specs.Numbers.{numbersOf};
-ghost use Rattle.conditions.specs.Conditions.{each, thinnedBelow, thinnedAt, thinnedBy, thinnedOut};
+ghost use Rattle.conditions.specs.Conditions.{each, thinnedBelow, thinnedAt, thinnedBy, thinnedWithin};
 use crate::run;
 use formats::format;
 use formats::format::Format;
@@ -50,9 +50,9 @@ fn thinned_by(format: Format, b: &[u8], k: usize) -> bool
 }
 
 // Whether condition 4 holds.
-pub fn thinned_out(format: Format, b: &[u8]) -> bool
+pub fn within(format: Format, b: &[u8]) -> bool
     requires { ⌜ T (allBits (now b)) × (length (now b) ≡ numbersOf format .n) ⌝ }
-    ensures { λ r. ⌜ r ≡ thinnedOut format (now (b .entry)) ⌝ }
+    ensures { λ r. ⌜ r ≡ thinnedWithin format (now (b .entry)) ⌝ }
 {
     for k in 1..5 {
         if !thinned_by(format, b, k) {

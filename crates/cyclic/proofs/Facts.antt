@@ -2,11 +2,11 @@
 -- Assumes nothing.
 use Prim.Native.Nat.{ℕ, zero, suc, _-_, _<_}
 use mathlib.Core.Path.{_≡_, refl}
-use mathlib.Core.Bool.{Bool, true, not}
+use mathlib.Core.Bool.{Bool, true, not, _&&_}
 use mathlib.Core.List.{List, [], _∷_, _++_}
 use lib.Dec.{T, lit<}
 use lib.ListN.{drop, replicate}
-use Rattle.bits.specs.Bits.{both, allBits, same}
+use Rattle.bits.specs.Bits.{allBits, same}
 use Rattle.formats.specs.Polynomial.{sum, product, polynomial, coefficientOf, coefficientsBelow}
 use Rattle.formats.specs.Numbers.{Numbers, long, short, fOf, gOf, fgOf}
 use Rattle.cyclic.specs.Remainder.{step, remainderFrom, remainder}
@@ -17,7 +17,7 @@ use Rattle.cyclic.proofs.Registers.{Monic}
 -- none of the next k registers from s on, each one step after the other, is o
 unfoldable pub never : List ℕ → List ℕ → List ℕ → ℕ → Bool
 never t o s zero = true
-never t o s (suc k) = both (not (same s o)) (never t o (step t s 0) k)
+never t o s (suc k) = not (same s o) && never t o (step t s 0) k
 
 -- what is computed for a format
 pub record Facts (F : Numbers) : Type 0 where

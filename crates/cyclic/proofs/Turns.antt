@@ -15,7 +15,7 @@ use Rattle.cyclic.specs.declared.Turn.{Turn}
 use Rattle.cyclic.specs.declared.Turn.the-variants.{At, Nothing}
 use Rattle.cyclic.specs.Remainder.{step, remainder}
 use Rattle.cyclic.specs.Check.{turnRemainder, turnAmong, turnOf}
-use Rattle.bits.proofs.Both.{both-left, both-right}
+use Rattle.bits.proofs.And.{and-left, and-right}
 use Rattle.bits.proofs.Equal.{same-equal, same-of}
 use Rattle.bits.proofs.Tests.{clash}
 use Rattle.cyclic.proofs.Lists.{zeros}
@@ -30,11 +30,11 @@ never-is : (d : ℕ) (t s : Reg (suc d)) (o : List ℕ) (k i : ℕ) → T (never
 unfolding never pow
 never-is d t s o zero i h l e = absurd (omega arith)
 never-is d t s o (suc k) zero h l e =
-    T-not (same (s .of) o) (both-left (not (same (s .of) o)) (never (t .of) o (step (t .of) (s .of) 0) k) h)
+    T-not (same (s .of) o) (and-left (not (same (s .of) o)) (never (t .of) o (step (t .of) (s .of) 0) k) h)
     (same-of (s .of) o e)
 never-is d t s o (suc k) (suc i) h l e =
     let M = Mod d t in
-    never-is d t (M .X s) o k i (both-right (not (same (s .of) o)) (never (t .of) o (step (t .of) (s .of) 0) k) h) (omega arith)
+    never-is d t (M .X s) o k i (and-right (not (same (s .of) o)) (never (t .of) o (step (t .of) (s .of) 0) k) h) (omega arith)
     (ap (λ (r : Reg (suc d)). r .of) (pow-X M i s) ∙ e)
 
 module _ (F : Numbers) (A : Facts F) where

@@ -13,7 +13,7 @@ ghost use Rattle.scrambling.specs.Scrambling.{scrambled, descrambled};
 ghost use Rattle.scrambling.specs.Sum.{withSum, withoutSum};
 ghost use Rattle.cyclic.specs.Remainder.{remainder};
 ghost use Rattle.cyclic.specs.Check.{checkBits, turnOf};
-ghost use Rattle.conditions.specs.Conditions.{offStep, notRepeating, thinnedOut};
+ghost use Rattle.conditions.specs.Conditions.{offStepWithin, notRepeating, thinnedWithin};
 ghost use Rattle.layers.specs.Crossing.{formatOf, numbers, numberOr1024, turnOr, twoWords};
 use conditions::off_step;
 use conditions::repeating;
@@ -257,10 +257,10 @@ pub extern "C" fn balise_layers_turn(long: bool, remainder: u64) -> usize
 #[no_mangle]
 pub extern "C" fn balise_layers_off_step(long: bool, telegram: &[u8]) -> bool
     requires { ⌜ T (allBits (now telegram)) × (length (now telegram) ≡ numbers long .n) ⌝ }
-    ensures { λ r. ⌜ r ≡ offStep (formatOf long) (now (telegram .entry)) ⌝ }
+    ensures { λ r. ⌜ r ≡ offStepWithin (formatOf long) (now (telegram .entry)) ⌝ }
 {
     let format = format_of(long);
-    off_step::off_step(format, telegram)
+    off_step::within(format, telegram)
 }
 
 // Whether condition 3 holds of a telegram's bits.
@@ -277,8 +277,8 @@ pub extern "C" fn balise_layers_not_repeating(long: bool, telegram: &[u8]) -> bo
 #[no_mangle]
 pub extern "C" fn balise_layers_thinned_out(long: bool, telegram: &[u8]) -> bool
     requires { ⌜ T (allBits (now telegram)) × (length (now telegram) ≡ numbers long .n) ⌝ }
-    ensures { λ r. ⌜ r ≡ thinnedOut (formatOf long) (now (telegram .entry)) ⌝ }
+    ensures { λ r. ⌜ r ≡ thinnedWithin (formatOf long) (now (telegram .entry)) ⌝ }
 {
     let format = format_of(long);
-    thinned::thinned_out(format, telegram)
+    thinned::within(format, telegram)
 }

@@ -2,13 +2,13 @@
 -- which is the lowest that applies where the numbers rise; accepted is what no refusal applies to. Assumes nothing.
 use Prim.Native.Nat.{ℕ, _≤_, _<_}
 use mathlib.Core.Path.{_≡_, refl, sym, ap, _∙_}
-use mathlib.Core.Bool.{Bool, true, false, cond, _&&_}
+use mathlib.Core.Bool.{Bool, true, false, not, cond, _&&_}
 use mathlib.Core.List.{List, [], _∷_}
 use mathlib.Core.Logic.{_↔_, _⊎_, inl, inr}
 use native.Mathlib.Omega.{arith}
 use lib.Dec.{T, ltb, ltb→lt}
 use Rattle.bits.proofs.Tests.{clash}
-use Rattle.refusals.specs.Table.{Row, Verdict, refused, accepted, verdict, answerBy, RowApplies, Applies, FirstApplies, Lowest, RefusesBy, risesAbove}
+use Rattle.refusals.specs.Table.{Row, _when_, Verdict, refused, accepted, verdict, answerBy, RowApplies, Applies, FirstApplies, Lowest, RefusesBy, risesAbove}
 
 and-left : (a b : Bool) → T (a && b) → T a
 and-left true b t = tt
@@ -35,17 +35,22 @@ module _ {R : Type 0} where
   refused-one : (q r : R) → refused q ≡ refused r → q ≡ r
   refused-one q r e = ap (refusalOr q) e
 
-  -- ---- the walk through a table: past a row that does not apply, and refused at one that does
+  -- ---- the walk through a table: past a test that holds, and refused at one that fails
 
-  pub past : (r : R) (t : Bool) (rows : List (Row R)) (v : Verdict R) → v ≡ verdict (record { refusal = r; applies = t } ∷ rows) → t ≡ false
-      → v ≡ verdict rows
-  unfolding verdict
-  past r t rows v e f = rw f at e
+  pub record Decides (rows : List (Row R)) (v : Verdict R) : Type 0 where
+    pub verdict-is : verdict rows ≡ v
 
-  pub here : (r : R) (t : Bool) (rows : List (Row R)) (v : Verdict R) → v ≡ verdict (record { refusal = r; applies = t } ∷ rows) → t ≡ true
-      → v ≡ refused r
+  pub passed : {r : R} {t : Bool} {rows : List (Row R)} {v : Verdict R} → t ≡ true → Decides rows v → Decides ((r when not t) ∷ rows) v
   unfolding verdict
-  here r t rows v e f = rw f at e
+  passed e d = record { verdict-is = rw e (d .verdict-is) }
+
+  pub failed : {r : R} {t : Bool} {rows : List (Row R)} → t ≡ false → Decides ((r when not t) ∷ rows) (refused r)
+  unfolding verdict
+  failed e = record { verdict-is = rw e }
+
+  pub all-passed : Decides [] accepted
+  unfolding verdict
+  all-passed = record { verdict-is = refl }
 
   -- ---- the first that applies
 
@@ -87,6 +92,21 @@ module _ {R : Type 0} where
       go true f e a next = accepted-refused (row .refusal) (sym e)
       go false f e (inl (is, a)) next = rw f at a
       go false f e (inr a) next = next e a
+
+  -- no row applies
+  unfoldable pub NoRow : List (Row R) → Type 0
+  NoRow [] = Unit {0}
+  NoRow (row ∷ rows) = (row .applies ≡ false) × NoRow rows
+
+  pub accepted-no-row : (rows : List (Row R)) → verdict rows ≡ accepted → NoRow rows
+  unfolding verdict NoRow
+  accepted-no-row [] e = tt
+  accepted-no-row (row ∷ rows) e = go (row .applies) refl e (accepted-no-row rows)
+    where
+      go : (t : Bool) → row .applies ≡ t → cond t (refused (row .refusal)) (verdict rows) ≡ accepted → (verdict rows ≡ accepted → NoRow rows)
+          → (row .applies ≡ false) × NoRow rows
+      go true f e next = accepted-refused (row .refusal) (sym e)
+      go false f e next = (f, next e)
 
   first-applies : (rows : List (Row R)) (r : R) → FirstApplies rows r → Applies rows r
   unfolding FirstApplies Applies

@@ -11,7 +11,7 @@ pub record Row (R : Type 0) : Type 0 where
   pub refusal : R
   pub applies : Bool
 
-infixr 40 _when_
+infix 80 _when_
 abbrev pub _when_ : {R : Type 0} → R → Bool → Row R
 refusal when applies = record { refusal = refusal; applies = applies }
 

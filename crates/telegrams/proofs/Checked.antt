@@ -2,14 +2,15 @@
 -- Assumes nothing.
 use Prim.Native.Nat.{ℕ, _-_}
 use mathlib.Core.Path.{_≡_, sym, ap, _∙_}
+use mathlib.Core.Bool.{_&&_}
 use mathlib.Core.Logic.{_↔_}
 use mathlib.Core.List.{List, _++_}
 use native.Mathlib.Omega.{arith}
 use lib.Dec.{T}
 use lib.ListN.{length, take, drop, length-drop, take-append-drop}
-use Rattle.bits.specs.Bits.{both, allBits}
+use Rattle.bits.specs.Bits.{allBits}
 use Rattle.bits.proofs.AllBits.{allBits-take, allBits-drop}
-use Rattle.bits.proofs.Both.{both-left, both-right, both-of}
+use Rattle.bits.proofs.And.{and-left, and-right, and-of}
 use Rattle.bits.proofs.Equal.{same-equal, same-of}
 use Rattle.formats.specs.Numbers.{Numbers, fOf, gOf, fgOf}
 use Rattle.formats.proofs.Sizes.{Sizes}
@@ -20,15 +21,15 @@ use Rattle.telegrams.specs.Fields.{checked}
 
 -- 0 by g and turn 0 by f, as one remainder by f*g
 pub factors-remainder : (F : Numbers) → Facts F → (b : List ℕ) → T (allBits b)
-    → T (both (divisible F b) (unturned F b)) ↔ (remainder (fgOf F) b ≡ gPadded F)
+    → T (divisible F b && unturned F b) ↔ (remainder (fgOf F) b ≡ gPadded F)
 unfolding divisible unturned
 factors-remainder F A b bits =
     let rg = remainder (gOf F) b in
     let rf = remainder (fOf F) b in (
       λ h. two-factors F A b bits
-          (same-equal rg (zeros 75) (both-left (divisible F b) (unturned F b) h))
-          (same-equal rf (turnRemainder F 0) (both-right (divisible F b) (unturned F b) h)),
-      λ e. both-of (divisible F b) (unturned F b)
+          (same-equal rg (zeros 75) (and-left (divisible F b) (unturned F b) h))
+          (same-equal rf (turnRemainder F 0) (and-right (divisible F b) (unturned F b) h)),
+      λ e. and-of (divisible F b) (unturned F b)
           (same-of rg (zeros 75) (factors-two F A b bits e .0))
           (same-of rf (turnRemainder F 0) (factors-two F A b bits e .1)),
     )
@@ -45,7 +46,7 @@ module _ (F : Numbers) (A : Facts F) (S : Sizes F) (b : List ℕ) (bits : T (all
       let whole : remainder (fgOf F) (take i b ++ drop i b) ≡ remainder (fgOf F) b = ap (remainder (fgOf F)) (take-append-drop i b) in
       (λ h. sym whole ∙ law .1 (same-equal c (checkBits F d) h), λ e. same-of c (checkBits F d) (law .0 (whole ∙ e)))
 
-  pub checked-factors : T (checked F b) ↔ T (both (divisible F b) (unturned F b))
+  pub checked-factors : T (checked F b) ↔ T (divisible F b && unturned F b)
   checked-factors =
       let one = checked-remainder in
       let two = factors-remainder F A b bits in

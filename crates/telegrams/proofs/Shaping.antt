@@ -9,7 +9,7 @@ use lib.ListN.{length, take, drop, length-append, length-drop}
 use lib.Seq.{take-at, drop-at, take-add, take-all}
 use Rattle.bits.specs.Bits.{allBits, numberOf, bitsOf}
 use Rattle.bits.proofs.AllBits.{allBits-nil, allBits-append, allBits-drop, allBits-bitsOf}
-use Rattle.bits.proofs.Both.{both-of}
+use Rattle.bits.proofs.And.{and-of}
 use Rattle.bits.proofs.Numbers.{length-bitsOf, numberOf-bitsOf}
 use Rattle.bits.proofs.Parts.{front-below, front-bits}
 use Rattle.words.specs.declared.Lookup.{Lookup}
@@ -75,7 +75,7 @@ unfolding allWords
 allWords-shaped zero v rest h = tt
 allWords-shaped (suc k) v rest h =
     let b = shaped (suc k) v ++ rest in
-    both-of (isWord (take 11 b)) (allWords k (drop 11 b))
+    and-of (isWord (take 11 b)) (allWords k (drop 11 b))
     (subst (λ (w : List ℕ). T (isWord w)) (sym (first-word k v rest)) (isWord-word (numberOf (take 10 v)) (front-below 10 v h)))
     (subst (λ (l : List ℕ). T (allWords k l)) (sym (other-words k v rest)) (allWords-shaped k (drop 10 v) rest (allBits-drop 10 v h)))
 

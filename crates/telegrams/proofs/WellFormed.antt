@@ -2,14 +2,15 @@
 -- Assumes nothing.
 use Prim.Native.Nat.{ℕ, _+_, _-_, _*_, _≤_, _<_}
 use mathlib.Core.Path.{_≡_, sym, ap, ap₂, subst, _∙_}
+use mathlib.Core.Bool.{_&&_}
 use mathlib.Core.List.{List, _++_}
 use native.Mathlib.Omega.{arith}
 use lib.Dec.{T, eqb, eqb→eq, eqb-refl}
 use lib.ListN.{length, take, drop, length-drop, take-append-drop}
 use lib.Seq.{drop-drop, take-add}
-use Rattle.bits.specs.Bits.{both, allBits, same}
+use Rattle.bits.specs.Bits.{allBits, same}
 use Rattle.bits.proofs.AllBits.{allBits-drop}
-use Rattle.bits.proofs.Both.{both-left, both-right, both-of}
+use Rattle.bits.proofs.And.{and-left, and-right, and-of}
 use Rattle.bits.proofs.Equal.{same-equal, same-of}
 use Rattle.bits.proofs.Parts.{front-below, front-bits}
 use Rattle.bits.proofs.Tests.{tests-agree}
@@ -52,15 +53,15 @@ parts F b h =
     let c = same (controlOf F b) control in
     let w = allWords (F .words) b in
     let k = checked F b in
-    let front = both-left (both e (allBits b)) (both c (both w k)) h in
-    let back = both-right (both e (allBits b)) (both c (both w k)) h in
-    let last = both-right c (both w k) back in
+    let front = and-left (e && allBits b) (c && (w && k)) h in
+    let back = and-right (e && allBits b) (c && (w && k)) h in
+    let last = and-right c (w && k) back in
     record {
-      size = eqb→eq (length b) (F .n) (both-left e (allBits b) front);
-      bits = both-right e (allBits b) front;
-      control-is = same-equal (controlOf F b) control (both-left c (both w k) back);
-      all-words = both-left w k last;
-      check = both-right w k last;
+      size = eqb→eq (length b) (F .n) (and-left e (allBits b) front);
+      bits = and-right e (allBits b) front;
+      control-is = same-equal (controlOf F b) control (and-left c (w && k) back);
+      all-words = and-left w k last;
+      check = and-right w k last;
     }
 
 pub from-parts : (F : Numbers) (b : List ℕ) → WellFormed F b → T (wellFormed F b)
@@ -71,17 +72,17 @@ from-parts F b p =
     let w = allWords (F .words) b in
     let k = checked F b in
     let sized : T e = rw (p .size) (eqb-refl (F .n)) in
-    both-of (both e (allBits b)) (both c (both w k)) (both-of e (allBits b) sized (p .bits))
-    (both-of c (both w k) (same-of (controlOf F b) control (p .control-is)) (both-of w k (p .all-words) (p .check)))
+    and-of (e && allBits b) (c && (w && k)) (and-of e (allBits b) sized (p .bits))
+    (and-of c (w && k) (same-of (controlOf F b) control (p .control-is)) (and-of w k (p .all-words) (p .check)))
 
 -- ---- the words are those of the shaped data and the last ten
 
 pub words-split : (F : Numbers) → Sizes F → (b : List ℕ)
-    → allWords (F .words) b ≡ both (allWords (blocks F) b) (allWords 10 (drop (F .n - 110) b))
+    → allWords (F .words) b ≡ allWords (blocks F) b && allWords 10 (drop (F .n - 110) b)
 words-split F S b =
     let place : 11 * blocks F ≡ F .n - 110 = omega (arith, S .n-is) in
     ap (λ (k : ℕ). allWords k b) (S .words-are) ∙ allWords-add (blocks F) 10 b
-    ∙ ap (λ (i : ℕ). both (allWords (blocks F) b) (allWords 10 (drop i b))) place
+    ∙ ap (λ (i : ℕ). allWords (blocks F) b && allWords 10 (drop i b)) place
 
 -- ---- a well-formed telegram is the one made from its own fields
 
@@ -97,7 +98,7 @@ module _ (F : Numbers) (S : Sizes F) (b : List ℕ) (h : WellFormed F b) where
       let place : 11 * k ≡ F .n - 110 = omega (arith, S .n-is) in
       let within : 11 * k ≤ length b = omega (arith, S .n-is, h .size) in
       let ten : 10 ≤ length d = omega (arith, descrambled-length B s, length-unshaped k b, S .some) in
-      let words : T (allWords k b) = both-left (allWords k b) (allWords 10 (drop (F .n - 110) b)) (subst T (words-split F S b) (h .all-words)) in
+      let words : T (allWords k b) = and-left (allWords k b) (allWords 10 (drop (F .n - 110) b)) (subst T (words-split F S b) (h .all-words)) in
       ap (λ (v : List ℕ). shaped k (scrambled B v)) (withSum-withoutSum k d (descrambled-bits B s) (S .some) ten)
       ∙ ap (shaped k) (scrambled-descrambled B s (bits-unshaped k b))
       ∙ shaped-unshaped k b (h .bits) words within
@@ -151,7 +152,7 @@ module _ (F : Numbers) (A : Facts F) (S : Sizes F) (u : List ℕ) (B esb : ℕ) 
         size = length-made F A S u B esb;
         bits = bits-made F A S u B esb;
         control-is = control-made F A S u B esb;
-        all-words = subst T (sym (words-split F S t)) (both-of (allWords (blocks F) t) (allWords 10 (drop (F .n - 110) t)) (words-made F A S u B esb) h);
+        all-words = subst T (sym (words-split F S t)) (and-of (allWords (blocks F) t) (allWords 10 (drop (F .n - 110) t)) (words-made F A S u B esb) h);
         check = checked-made F A S u B esb;
       }
 
@@ -160,5 +161,5 @@ module _ (F : Numbers) (A : Facts F) (S : Sizes F) (u : List ℕ) (B esb : ℕ) 
       let t = telegramOf F u B esb in
       let last = allWords 10 (drop (F .n - 110) t) in
       tests-agree (wellFormed F t) last
-      (λ h. both-right (allWords (blocks F) t) last (subst T (words-split F S t) (parts F t h .all-words)))
+      (λ h. and-right (allWords (blocks F) t) last (subst T (words-split F S t) (parts F t h .all-words)))
       (λ h. from-parts F t (made-parts h))

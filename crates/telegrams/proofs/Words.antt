@@ -1,16 +1,16 @@
 -- The words among a telegram's bits: a word's number, and the test of some words, part by part. Assumes nothing.
 use Prim.Native.Nat.{ℕ, zero, suc, _+_, _*_, _%_, _<_}
 use mathlib.Core.Path.{_≡_, refl, sym, ap, subst, _∙_}
+use mathlib.Core.Bool.{_&&_, and-assoc}
 use mathlib.Core.List.{List}
 use native.Mathlib.Nat.{zero-add, suc-add}
 use native.Mathlib.Omega.{arith}
 use lib.Dec.{T}
 use lib.ListN.{take, drop}
 use lib.Seq.{drop-drop}
-use Rattle.bits.specs.Bits.{both, numberOf, bitsOf}
-use Rattle.bits.proofs.Both.{both-left, both-right}
+use Rattle.bits.specs.Bits.{numberOf, bitsOf}
+use Rattle.bits.proofs.And.{and-left, and-right}
 use Rattle.bits.proofs.Numbers.{numberOf-bitsOf}
-use Rattle.bits.proofs.Tests.{both-assoc}
 use Rattle.words.specs.declared.Lookup.{Lookup}
 use Rattle.words.specs.declared.Lookup.the-variants.{Number, NotInTable}
 use Rattle.words.specs.Words.{wordOf, lookupOf, isNumber}
@@ -47,20 +47,20 @@ word-number w h = go (lookupOf (numberOf w)) refl h
 
 pub allWords-first : (k : ℕ) (b : List ℕ) → T (allWords (suc k) b) → T (isWord (take 11 b))
 unfolding allWords
-allWords-first k b h = both-left (isWord (take 11 b)) (allWords k (drop 11 b)) h
+allWords-first k b h = and-left (isWord (take 11 b)) (allWords k (drop 11 b)) h
 
 pub allWords-others : (k : ℕ) (b : List ℕ) → T (allWords (suc k) b) → T (allWords k (drop 11 b))
 unfolding allWords
-allWords-others k b h = both-right (isWord (take 11 b)) (allWords k (drop 11 b)) h
+allWords-others k b h = and-right (isWord (take 11 b)) (allWords k (drop 11 b)) h
 
 -- first j words, then k more
-pub allWords-add : (j k : ℕ) (b : List ℕ) → allWords (j + k) b ≡ both (allWords j b) (allWords k (drop (11 * j) b))
+pub allWords-add : (j k : ℕ) (b : List ℕ) → allWords (j + k) b ≡ allWords j b && allWords k (drop (11 * j) b)
 unfolding allWords
 allWords-add zero k b = rw zero-add
 allWords-add (suc j) k b =
     let w = isWord (take 11 b) in
     let place : 11 + 11 * j ≡ 11 * suc j = omega arith in
     rw (suc-add j k)
-    (ap (both w) (allWords-add j k (drop 11 b))
-    ∙ sym (both-assoc w (allWords j (drop 11 b)) (allWords k (drop (11 * j) (drop 11 b))))
-    ∙ ap (λ (l : List ℕ). both (both w (allWords j (drop 11 b))) (allWords k l)) (drop-drop (11 * j) 11 b ∙ ap (λ (n : ℕ). drop n b) place))
+    (ap (_&&_ w) (allWords-add j k (drop 11 b))
+    ∙ sym (and-assoc w (allWords j (drop 11 b)) (allWords k (drop (11 * j) (drop 11 b))))
+    ∙ ap (λ (l : List ℕ). w && allWords j (drop 11 b) && allWords k l) (drop-drop (11 * j) 11 b ∙ ap (λ (n : ℕ). drop n b) place))

@@ -2,11 +2,11 @@
 -- b is b(n-1) to b0, so b(i) stands at place n-1-i of the list.
 -- Assumes nothing.
 use Prim.Native.Nat.{ℕ, zero, suc, _-_}
-use mathlib.Core.Bool.{Bool, true, false}
+use mathlib.Core.Bool.{Bool, true, false, _&&_}
 use mathlib.Core.List.{List, [], _++_}
 use lib.Dec.{eqb}
 use lib.ListN.{length, take, drop}
-use Rattle.bits.specs.Bits.{both, allBits, same, numberOf, bitsOf}
+use Rattle.bits.specs.Bits.{allBits, same, numberOf, bitsOf}
 use Rattle.formats.specs.Numbers.{Numbers, blocks}
 use Rattle.words.specs.declared.Lookup.{Lookup}
 use Rattle.words.specs.declared.Lookup.the-variants.{Number, NotInTable}
@@ -49,7 +49,7 @@ isWord w = inTable (numberOf w)
 -- the next k words are all in the table
 unfoldable pub allWords : ℕ → List ℕ → Bool
 allWords zero b = true
-allWords (suc k) b = both (isWord (take 11 b)) (allWords k (drop 11 b))
+allWords (suc k) b = isWord (take 11 b) && allWords k (drop 11 b)
 
 -- b84 to b0 are the check bits of what stands before them
 unfoldable pub checked : Numbers → List ℕ → Bool
@@ -58,7 +58,7 @@ checked F b = same (drop (F .n - 85) b) (checkBits F (take (F .n - 85) b))
 -- n bits; control 0, 0, 1; every word in the table, the last ten too; the check bits
 unfoldable pub wellFormed : Numbers → List ℕ → Bool
 wellFormed F b =
-    both (both (eqb (length b) (F .n)) (allBits b))
-    (both (same (controlOf F b) control)
-    (both (allWords (F .words) b)
-    (checked F b)))
+    eqb (length b) (F .n) && allBits b
+    && (same (controlOf F b) control
+    && (allWords (F .words) b
+    && checked F b))

@@ -1,15 +1,15 @@
 -- The barred words (document 01, "Words"): 250 and 20 of the 2,048 words, none in both groups, none in the table.
 -- Each is one computed test. Assumes nothing.
 use mathlib.Core.Path.{_≡_, refl, subst}
-use mathlib.Core.Bool.{Bool, true, false, not, false≢true}
+use mathlib.Core.Bool.{Bool, true, false, not, false≢true, _||_}
 use mathlib.Core.List.{List, [], _∷_}
 use Prim.Native.Nat.{ℕ, _<_}
 use lib.Dec.{T, eqb}
 use lib.ListN.{getD, take, drop}
 use borrow.Author.Tests.{eqb-true}
 use Rattle.words.specs.Table.{table}
-use Rattle.words.specs.Words.{wordOf, inGroup250, inGroup20, barred20, among, either, howMany}
-use Rattle.bits.proofs.Both.{both-left, both-right}
+use Rattle.words.specs.Words.{wordOf, inGroup250, inGroup20, barred20, among, howMany}
+use Rattle.bits.proofs.And.{and-left, and-right}
 use Rattle.words.proofs.Lists.{every, every-at, sumsTo, fails}
 use Rattle.words.proofs.Rules.{within}
 
@@ -51,10 +51,10 @@ not-barred i h = (
 at-member : (f : ℕ → Bool) (w : ℕ) (l : List ℕ) → T (every f l) → among w l ≡ true → T (f w)
 unfolding every among
 at-member f w [] t e = absurd (false≢true e)
-at-member f w (x ∷ xs) t e = go (at-member f w xs (both-right (f x) (every f xs) t)) (eqb x w) refl e
+at-member f w (x ∷ xs) t e = go (at-member f w xs (and-right (f x) (every f xs) t)) (eqb x w) refl e
   where
-    go : (among w xs ≡ true → T (f w)) → (b : Bool) → eqb x w ≡ b → either b (among w xs) ≡ true → T (f w)
-    go ih true p q = subst (λ (v : ℕ). T (f v)) (eqb-true x w p) (both-left (f x) (every f xs) t)
+    go : (among w xs ≡ true → T (f w)) → (b : Bool) → eqb x w ≡ b → b || among w xs ≡ true → T (f w)
+    go ih true p q = subst (λ (v : ℕ). T (f v)) (eqb-true x w p) (and-left (f x) (every f xs) t)
     go ih false p q = ih q
 
 barred-not250 : T (every not250 barred20)

@@ -1,7 +1,7 @@
 -- Tests that antt computes over a whole list, each with the lemma that turns it into the rule at an entry.
 -- Assumes nothing.
 use mathlib.Core.Path.{_≡_, refl, ap, sym, _∙_, subst}
-use mathlib.Core.Bool.{Bool, true, false, not}
+use mathlib.Core.Bool.{Bool, true, false, not, _&&_}
 use mathlib.Core.List.{List, [], _∷_, reverseAux, reverse}
 use Prim.Native.Nat.{ℕ, zero, suc, _+_, _-_, _≤_, _<_}
 use native.Mathlib.Nat.{le-of-suc-le-suc, not-suc-le-zero}
@@ -9,8 +9,7 @@ use native.Mathlib.Omega.{arith}
 use lib.Dec.{T, eqb, leb, ltb, eqb→eq, leb→le, le→leb}
 use lib.ListN.{length, getD}
 use borrow.Author.Tests.{ltb-true, ltb-false}
-use Rattle.bits.specs.Bits.{both}
-use Rattle.bits.proofs.Both.{both-left, both-right, both-of}
+use Rattle.bits.proofs.And.{and-left, and-right, and-of}
 
 pub fails : (b : Bool) → T (not b) → b ≡ false
 fails true t = absurd t
@@ -19,44 +18,44 @@ fails false t = refl
 -- the test f passes at each entry
 unfoldable pub every : (ℕ → Bool) → List ℕ → Bool
 every f [] = true
-every f (x ∷ xs) = both (f x) (every f xs)
+every f (x ∷ xs) = f x && every f xs
 
 pub every-at : (f : ℕ → Bool) (l : List ℕ) → T (every f l) → (i : ℕ) → i < length l → T (f (getD l i 0))
 unfolding every
 every-at f [] t i h = absurd (not-suc-le-zero h)
-every-at f (x ∷ xs) t zero h = both-left (f x) (every f xs) t
-every-at f (x ∷ xs) t (suc i) h = every-at f xs (both-right (f x) (every f xs) t) i (le-of-suc-le-suc h)
+every-at f (x ∷ xs) t zero h = and-left (f x) (every f xs) t
+every-at f (x ∷ xs) t (suc i) h = every-at f xs (and-right (f x) (every f xs) t) i (le-of-suc-le-suc h)
 
 -- the test f passes at each entry and its place, counted from k
 unfoldable pub eachFrom : (ℕ → ℕ → Bool) → ℕ → List ℕ → Bool
 eachFrom f k [] = true
-eachFrom f k (x ∷ xs) = both (f k x) (eachFrom f (suc k) xs)
+eachFrom f k (x ∷ xs) = f k x && eachFrom f (suc k) xs
 
 pub each-at : (f : ℕ → ℕ → Bool) (k : ℕ) (l : List ℕ) → T (eachFrom f k l) → (i n : ℕ) → n ≡ k + i → i < length l → T (f n (getD l i 0))
 unfolding eachFrom
 each-at f k [] t i n e h = absurd (not-suc-le-zero h)
 each-at f k (x ∷ xs) t zero n e h =
     let same : k ≡ n = omega arith in
-    subst (λ (m : ℕ). T (f m x)) same (both-left (f k x) (eachFrom f (suc k) xs) t)
+    subst (λ (m : ℕ). T (f m x)) same (and-left (f k x) (eachFrom f (suc k) xs) t)
 each-at f k (x ∷ xs) t (suc i) n e h =
-    each-at f (suc k) xs (both-right (f k x) (eachFrom f (suc k) xs) t) i n (omega arith) (le-of-suc-le-suc h)
+    each-at f (suc k) xs (and-right (f k x) (eachFrom f (suc k) xs) t) i n (omega arith) (le-of-suc-le-suc h)
 
 -- the entries are k or more, and each is more than the one before it
 unfoldable pub rises : ℕ → List ℕ → Bool
 rises k [] = true
-rises k (x ∷ xs) = both (leb k x) (rises (suc x) xs)
+rises k (x ∷ xs) = leb k x && rises (suc x) xs
 
 pub rises-first : (k x : ℕ) (xs : List ℕ) → T (rises k (x ∷ xs)) → k ≤ x
 unfolding rises
-rises-first k x xs t = leb→le k x (both-left (leb k x) (rises (suc x) xs) t)
+rises-first k x xs t = leb→le k x (and-left (leb k x) (rises (suc x) xs) t)
 
 pub rises-rest : (k x : ℕ) (xs : List ℕ) → T (rises k (x ∷ xs)) → T (rises (suc x) xs)
 unfolding rises
-rises-rest k x xs t = both-right (leb k x) (rises (suc x) xs) t
+rises-rest k x xs t = and-right (leb k x) (rises (suc x) xs) t
 
 pub rises-from : (k n x : ℕ) (xs : List ℕ) → T (rises k (x ∷ xs)) → n ≤ x → T (rises n (x ∷ xs))
 unfolding rises
-rises-from k n x xs t h = both-of (leb n x) (rises (suc x) xs) (le→leb n x h) (rises-rest k x xs t)
+rises-from k n x xs t h = and-of (leb n x) (rises (suc x) xs) (le→leb n x h) (rises-rest k x xs t)
 
 pub rises-least : (k : ℕ) (l : List ℕ) → T (rises k l) → (i : ℕ) → i < length l → k ≤ getD l i 0
 rises-least k [] t i h = absurd (not-suc-le-zero h)
@@ -76,15 +75,15 @@ rises-order k (x ∷ xs) t (suc i) (suc j) p h =
 unfoldable pub sumsTo : ℕ → List ℕ → List ℕ → Bool
 sumsTo n [] ys = true
 sumsTo n (x ∷ xs) [] = false
-sumsTo n (x ∷ xs) (y ∷ ys) = both (eqb (x + y) n) (sumsTo n xs ys)
+sumsTo n (x ∷ xs) (y ∷ ys) = eqb (x + y) n && sumsTo n xs ys
 
 pub sums-at : (n : ℕ) (xs ys : List ℕ) → T (sumsTo n xs ys) → (i : ℕ) → i < length xs → getD xs i 0 + getD ys i 0 ≡ n
 unfolding sumsTo
 sums-at n [] ys t i h = absurd (not-suc-le-zero h)
 sums-at n (x ∷ xs) [] t i h = absurd t
-sums-at n (x ∷ xs) (y ∷ ys) t zero h = eqb→eq (x + y) n (both-left (eqb (x + y) n) (sumsTo n xs ys) t)
+sums-at n (x ∷ xs) (y ∷ ys) t zero h = eqb→eq (x + y) n (and-left (eqb (x + y) n) (sumsTo n xs ys) t)
 sums-at n (x ∷ xs) (y ∷ ys) t (suc i) h =
-    sums-at n xs ys (both-right (eqb (x + y) n) (sumsTo n xs ys) t) i (le-of-suc-le-suc h)
+    sums-at n xs ys (and-right (eqb (x + y) n) (sumsTo n xs ys) t) i (le-of-suc-le-suc h)
 
 -- an entry of a list that is turned round
 past : (l r : List ℕ) (j n : ℕ) → n ≡ length l + j → getD (reverseAux l r) n 0 ≡ getD r j 0

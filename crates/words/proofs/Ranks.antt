@@ -1,7 +1,7 @@
 -- The number of a word by its rank: how many words of the table are below it. One computed test over the 2,048 words compares it
 -- with the inverse table. Assumes nothing.
 use mathlib.Core.Path.{_≡_, refl, ap, sym, _∙_, subst}
-use mathlib.Core.Bool.{Bool}
+use mathlib.Core.Bool.{Bool, _&&_}
 use Prim.Native.Nat.{ℕ, zero, suc, _+_, _*_, _/_, _%_, _^_, _≤_, _<_}
 use native.Mathlib.Numerals.{add-one}
 use native.Mathlib.Omega.{arith}
@@ -9,12 +9,11 @@ use lib.Count.{ones, onesIn, ones-step, ones-le}
 use lib.Dec.{T, eqb, ltb, eqb→eq, ltb→lt}
 use lib.ListN.{getD}
 use lib.Pow.{shr-lt}
-use Rattle.bits.specs.Bits.{both}
 use Rattle.words.specs.Table.{table}
 use Rattle.words.specs.PartsOf64.{present, before}
 use Rattle.words.specs.declared.Lookup.the-variants.{Number, NotInTable}
 use Rattle.words.specs.Words.{lookupOf, isNumber, inTable}
-use Rattle.bits.proofs.Both.{both-left, both-right}
+use Rattle.bits.proofs.And.{and-left, and-right}
 use Rattle.words.proofs.Lists.{eachFrom, each-at}
 use Rattle.words.proofs.InverseTable.{inverse, inverseFrom, inverse-length, inverse-number, inverse-none}
 
@@ -48,13 +47,13 @@ rankIn x y w = y + onesIn 64 (lower x w)
 -- the word's entry n of the inverse table is its rank, or says that it has none
 abbrev tells : ℕ → ℕ → ℕ → Bool
 tells zero n rank = eqb n 1024
-tells (suc b) n rank = both (ltb n 1024) (eqb n rank)
+tells (suc b) n rank = ltb n 1024 && eqb n rank
 
 abbrev agreesBy : ℕ → ℕ → ℕ → ℕ → Bool
 agreesBy x y w n =
-    both (ltb 0 (divisor w))
-    (both (ltb (lower x w) (2 ^ 64))
-    (tells (bitAt x w) n (rankIn x y w)))
+    ltb 0 (divisor w)
+    && (ltb (lower x w) (2 ^ 64)
+    && tells (bitAt x w) n (rankIn x y w))
 
 agrees : ℕ → ℕ → Bool
 agrees w n = agreesBy (getD present (w / 64) 0) (getD before (w / 64) 0) w n
@@ -70,7 +69,7 @@ tells-none (suc b) n k e t = absurd (omega arith)
 tells-number : (b n k : ℕ) → (b ≡ 0 → ⊥) → T (tells b n k) → (n < 1024) × (n ≡ k)
 tells-number zero n k d t = absurd (d refl)
 tells-number (suc b) n k d t =
-    (ltb→lt n 1024 (both-left (ltb n 1024) (eqb n k) t), eqb→eq n k (both-right (ltb n 1024) (eqb n k) t))
+    (ltb→lt n 1024 (and-left (ltb n 1024) (eqb n k) t), eqb→eq n k (and-right (ltb n 1024) (eqb n k) t))
 
 module _ (w x : ℕ) (h : w < 2048) (p : x ≡ getD present (w / 64) 0) where
   after : (y : ℕ) → y ≡ getD before (w / 64) 0 → T (agreesBy x y w (getD inverse w 0))
@@ -81,16 +80,16 @@ module _ (w x : ℕ) (h : w < 2048) (p : x ≡ getD present (w / 64) 0) where
   first = after (getD before (w / 64) 0) refl
 
   pub divides : 0 < divisor w
-  divides = ltb→lt 0 (divisor w) (both-left (ltb 0 (divisor w)) _ first)
+  divides = ltb→lt 0 (divisor w) (and-left (ltb 0 (divisor w)) _ first)
 
   below : lower x w < 2 ^ 64
-  below = ltb→lt (lower x w) (2 ^ 64) (both-left (ltb (lower x w) (2 ^ 64)) _ (both-right (ltb 0 (divisor w)) _ first))
+  below = ltb→lt (lower x w) (2 ^ 64) (and-left (ltb (lower x w) (2 ^ 64)) _ (and-right (ltb 0 (divisor w)) _ first))
 
   pub few : ones (lower x w) ≤ 64
   few = ones-le 64 (lower x w) below
 
   last : (y : ℕ) → y ≡ getD before (w / 64) 0 → T (tells (bitAt x w) (getD inverse w 0) (rankIn x y w))
-  last y q = both-right (ltb (lower x w) (2 ^ 64)) _ (both-right (ltb 0 (divisor w)) _ (after y q))
+  last y q = and-right (ltb (lower x w) (2 ^ 64)) _ (and-right (ltb 0 (divisor w)) _ (after y q))
 
   pub rank-none : bitAt x w ≡ 0 → NotInTable ≡ lookupOf w
   rank-none e =

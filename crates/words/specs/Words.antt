@@ -1,11 +1,10 @@
 -- The words (document 01, "Words"): the word of a number, the number of a word, and the barred words.
 -- Assumes nothing.
 use Prim.Native.Nat.{ℕ, zero, suc, _/_, _%_, _^_}
-use mathlib.Core.Bool.{Bool, true, false, cond}
+use mathlib.Core.Bool.{Bool, true, false, cond, _&&_, _||_}
 use mathlib.Core.List.{List, [], _∷_}
 use lib.Dec.{eqb, ltb}
 use lib.ListN.{getD}
-use Rattle.bits.specs.Bits.{both}
 use Rattle.words.specs.declared.Lookup.{Lookup}
 use Rattle.words.specs.declared.Lookup.the-variants.{Number, NotInTable}
 use Rattle.words.specs.Table.{table}
@@ -31,11 +30,6 @@ isNumber NotInTable = false
 abbrev pub inTable : ℕ → Bool
 inTable w = isNumber (lookupOf w)
 
--- at least one of two tests holds
-abbrev pub either : Bool → Bool → Bool
-either true b = true
-either false b = b
-
 -- an eleven-bit word begins, or ends, with these five bits
 abbrev pub beginsWith : ℕ → ℕ → Bool
 beginsWith five w = eqb (w / 2 ^ 6) five
@@ -46,13 +40,9 @@ endsWith five w = eqb (w % 2 ^ 5) five
 -- the group of 250: begins or ends with 00000 or 11111, or is 10000000001 or its flip 01111111110
 unfoldable pub inGroup250 : ℕ → Bool
 inGroup250 w =
-    both (ltb w (2 ^ 11))
-    (either (beginsWith 0b00000 w)
-    (either (beginsWith 0b11111 w)
-    (either (endsWith 0b00000 w)
-    (either (endsWith 0b11111 w)
-    (either (eqb w 0b10000000001)
-    (eqb w 0b01111111110))))))
+    ltb w (2 ^ 11)
+    && (beginsWith 0b00000 w || beginsWith 0b11111 w || endsWith 0b00000 w || endsWith 0b11111 w
+    || eqb w 0b10000000001 || eqb w 0b01111111110)
 
 -- the group of 20: ten words, and then their flips
 unfoldable pub barred20 : List ℕ
@@ -66,7 +56,7 @@ barred20 =
 -- the word is one of the list
 unfoldable pub among : ℕ → List ℕ → Bool
 among w [] = false
-among w (x ∷ xs) = either (eqb x w) (among w xs)
+among w (x ∷ xs) = eqb x w || among w xs
 
 unfoldable pub inGroup20 : ℕ → Bool
 inGroup20 w = among w barred20

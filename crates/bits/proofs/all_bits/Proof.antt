@@ -1,13 +1,13 @@
 -- `bits::all_bits` meets its contract. The loop's invariant: the answer for the whole slice is that for the rest. Assumes nothing.
 use mathlib.Core.Path.{_≡_, refl, sym, ap, _∙_}
-use mathlib.Core.Bool.{Bool, true}
+use mathlib.Core.Bool.{Bool, true, _&&_}
 use mathlib.Core.List.{List}
 use Prim.Native.Nat.{ℕ, _+_, _≤_, _<_, _-_}
 use native.Mathlib.Omega.{arith}
 use borrow.Author.Tests.{lt-ltb, le-ltb}
 use lib.Dec.{ltb}
 use lib.ListN.{length, getD, drop}
-use Rattle.bits.specs.Bits.{allBits, both}
+use Rattle.bits.specs.Bits.{allBits}
 use Rattle.bits.proofs.Rest.{rest-more, rest-done}
 use Rattle.bits.proofs.all_bits.Statement.{statement}
 use Rattle.bits.proofs.all_bits.Tie as tie
@@ -18,7 +18,7 @@ Inv-loop s i₀ i = (i ≤ length s) × (allBits s ≡ allBits (drop i s))
 abbrev μ-loop : tie.MeasureT-loop
 μ-loop s i₀ i = length s - i
 
-step : (s : List ℕ) (i : ℕ) → i < length s → allBits (drop i s) ≡ both (ltb (getD s i 0) 2) (allBits (drop (i + 1) s))
+step : (s : List ℕ) (i : ℕ) → i < length s → allBits (drop i s) ≡ ltb (getD s i 0) 2 && allBits (drop (i + 1) s)
 unfolding allBits
 step s i h = ap allBits (rest-more s i h)
 
@@ -36,7 +36,7 @@ returns : tie.Need-returns Inv-loop μ-loop
 returns c =
     let l = c .before .before .before in
     sym (l .loop .inv .1 ∙ step (l .before .args .s .now) (l .loop .i) (c .before .before .loop-test .taken)
-    ∙ ap (λ (b : Bool). both b (allBits (drop (l .loop .i + 1) (l .before .args .s .now)))) (le-ltb _ _ (c .if1 .taken)))
+    ∙ ap (λ (b : Bool). b && allBits (drop (l .loop .i + 1) (l .before .args .s .now))) (le-ltb _ _ (c .if1 .taken)))
 
 add-i : tie.Need-add-i Inv-loop μ-loop
 add-i c = omega arith
@@ -52,7 +52,7 @@ loop-again c =
     let small : getD s i 0 < 2 = omega arith in (
       omega arith,
       l .loop .inv .1 ∙ step s i (c .before .before .loop-test .taken)
-          ∙ ap (λ (b : Bool). both b (allBits (drop (i + 1) s))) (lt-ltb _ _ small),
+          ∙ ap (λ (b : Bool). b && allBits (drop (i + 1) s)) (lt-ltb _ _ small),
     )
 
 returns-2 : tie.Need-returns-2 Inv-loop μ-loop

@@ -9,8 +9,8 @@ use Rattle.layers.proofs.balise_layers_off_step.Tie as tie
 format-of-requires : tie.Need-format-of-requires
 format-of-requires c κs = search needs
 
-off-step-requires : tie.Need-off-step-requires
-off-step-requires c κs =
+within-requires : tie.Need-within-requires
+within-requires c κs =
     let start = c .before .before in
     (start .pre .0, start .pre .1 ∙ ap (λ (x : Format). numbersOf x .n) (sym (c .format-of .ensures)))
 
@@ -18,4 +18,4 @@ returns : tie.Need-returns
 returns c = cc
 
 pub balise-layers-off-step-spec : {M : Type 1} → statement M
-balise-layers-off-step-spec = tie.close (tie.spec format-of-requires off-step-requires returns)
+balise-layers-off-step-spec = tie.close (tie.spec format-of-requires within-requires returns)

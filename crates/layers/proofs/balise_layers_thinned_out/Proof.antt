@@ -9,8 +9,8 @@ use Rattle.layers.proofs.balise_layers_thinned_out.Tie as tie
 format-of-requires : tie.Need-format-of-requires
 format-of-requires c κs = search needs
 
-thinned-out-requires : tie.Need-thinned-out-requires
-thinned-out-requires c κs =
+within-requires : tie.Need-within-requires
+within-requires c κs =
     let start = c .before .before in
     (start .pre .0, start .pre .1 ∙ ap (λ (x : Format). numbersOf x .n) (sym (c .format-of .ensures)))
 
@@ -18,4 +18,4 @@ returns : tie.Need-returns
 returns c = cc
 
 pub balise-layers-thinned-out-spec : {M : Type 1} → statement M
-balise-layers-thinned-out-spec = tie.close (tie.spec format-of-requires thinned-out-requires returns)
+balise-layers-thinned-out-spec = tie.close (tie.spec format-of-requires within-requires returns)

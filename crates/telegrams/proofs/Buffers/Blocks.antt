@@ -1,13 +1,13 @@
 -- The words of some blocks and of some more, from where they stand; and the test of some words, one at a time. Assumes nothing.
 use mathlib.Core.Path.{_≡_, refl, sym, ap, ap₂, _∙_}
-use mathlib.Core.Bool.{true}
+use mathlib.Core.Bool.{true, _&&_}
 use mathlib.Core.List.{List, _++_, append-nil, append-assoc}
 use Prim.Native.Nat.{ℕ, zero, suc, _+_, _-_, _*_, _≤_, _<_}
 use native.Mathlib.Nat.{zero-add, suc-add}
 use native.Mathlib.Omega.{arith}
 use lib.ListN.{length, take, drop, length-drop}
 use lib.Seq.{drop-drop, take-append-le, drop-append-le}
-use Rattle.bits.specs.Bits.{both, numberOf, bitsOf}
+use Rattle.bits.specs.Bits.{numberOf, bitsOf}
 use Rattle.words.specs.Words.{wordOf}
 use Rattle.telegrams.specs.Telegram.{shaped}
 use Rattle.telegrams.specs.Fields.{isWord, allWords}
@@ -40,13 +40,13 @@ shaped-front (suc k) v rest h =
 
 -- of k words the next after j is tested, and the rest after it
 pub words-more : (k j : ℕ) (s : List ℕ) → j < k
-    → allWords (k - j) (drop (11 * j) s) ≡ both (isWord (take 11 (drop (11 * j) s))) (allWords (k - (j + 1)) (drop (11 * (j + 1)) s))
+    → allWords (k - j) (drop (11 * j) s) ≡ isWord (take 11 (drop (11 * j) s)) && allWords (k - (j + 1)) (drop (11 * (j + 1)) s)
 unfolding allWords
 words-more k j s h =
     let left : k - j ≡ suc (k - (j + 1)) = omega arith in
     let place : 11 * j + 11 ≡ 11 * (j + 1) = omega arith in
     ap (λ (i : ℕ). allWords i (drop (11 * j) s)) left
-    ∙ ap (λ (l : List ℕ). both (isWord (take 11 (drop (11 * j) s))) (allWords (k - (j + 1)) l)) (drop-drop 11 (11 * j) s ∙ ap (λ (i : ℕ). drop i s) place)
+    ∙ ap (λ (l : List ℕ). isWord (take 11 (drop (11 * j) s)) && allWords (k - (j + 1)) l) (drop-drop 11 (11 * j) s ∙ ap (λ (i : ℕ). drop i s) place)
 
 -- all are tested
 pub words-done : (k j : ℕ) (s : List ℕ) → k ≤ j → allWords (k - j) s ≡ true

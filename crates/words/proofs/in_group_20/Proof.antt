@@ -1,6 +1,6 @@
 -- `words::in_group_20` meets its contract. The loop's invariant: the answer for the whole list is that for the rest. Assumes nothing.
 use mathlib.Core.Path.{_≡_, refl, sym, ap, _∙_}
-use mathlib.Core.Bool.{Bool, true, false}
+use mathlib.Core.Bool.{Bool, true, false, _||_}
 use mathlib.Core.List.{List}
 use Prim.Native.Nat.{ℕ, _+_, _-_, _≤_, _<_}
 use native.Mathlib.Omega.{arith}
@@ -8,7 +8,7 @@ use borrow.Author.Needs.{needs}
 use borrow.Author.Tests.{eq-eqb, ne-eqb}
 use lib.ListN.{length, getD, drop}
 use Rattle.bits.proofs.Rest.{rest-more, rest-done}
-use Rattle.words.specs.Words.{inGroup20, barred20, among, either}
+use Rattle.words.specs.Words.{inGroup20, barred20, among}
 use Rattle.words.proofs.in_group_20.Statement.{statement}
 use Rattle.words.proofs.in_group_20.Tie as tie
 
@@ -22,12 +22,12 @@ abbrev μ-loop : tie.MeasureT-loop
 here : (w : ℕ) (l : List ℕ) (i : ℕ) → i < length l → getD l i 0 ≡ w → among w (drop i l) ≡ true
 unfolding among
 here w l i h e =
-    ap (among w) (rest-more l i h) ∙ ap (λ (b : Bool). either b (among w (drop (i + 1) l))) (eq-eqb (getD l i 0) w e)
+    ap (among w) (rest-more l i h) ∙ ap (λ (b : Bool). b || among w (drop (i + 1) l)) (eq-eqb (getD l i 0) w e)
 
 other : (w : ℕ) (l : List ℕ) (i : ℕ) → i < length l → (getD l i 0 ≡ w → ⊥) → among w (drop i l) ≡ among w (drop (i + 1) l)
 unfolding among
 other w l i h d =
-    ap (among w) (rest-more l i h) ∙ ap (λ (b : Bool). either b (among w (drop (i + 1) l))) (ne-eqb (getD l i 0) w d)
+    ap (among w) (rest-more l i h) ∙ ap (λ (b : Bool). b || among w (drop (i + 1) l)) (ne-eqb (getD l i 0) w d)
 
 none : (w : ℕ) (l : List ℕ) (i : ℕ) → length l ≤ i → among w (drop i l) ≡ false
 unfolding among

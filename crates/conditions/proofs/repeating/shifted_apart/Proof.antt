@@ -1,12 +1,12 @@
 -- `conditions::repeating::shifted_apart` meets its contract. Assumes nothing.
 use mathlib.Core.Path.{_≡_, refl, sym, ap, _∙_}
-use mathlib.Core.Bool.{Bool, true, false}
+use mathlib.Core.Bool.{Bool, true, false, _&&_}
 use mathlib.Core.List.{List}
 use Prim.Native.Nat.{ℕ, _+_, _*_}
 use borrow.Author.Needs.{needs}
 use borrow.Author.Tests.{le-leb, lt-leb, not-true, not-false}
 use lib.Dec.{leb}
-use Rattle.bits.specs.Bits.{both, around}
+use Rattle.bits.specs.Bits.{around}
 use Rattle.bits.specs.Differences.{differences}
 use Rattle.conditions.specs.Conditions.{each, apart, shiftedApart}
 use Rattle.conditions.proofs.Tests.{three-tests}
@@ -19,7 +19,7 @@ three b p first = each (λ (k : ℕ). apart 2 b p (p + k)) first 3
 
 -- the answer by the first two tests
 found : (b : List ℕ) (j d : ℕ) (t x : Bool) → d ≡ differences (around 22 (11 * j) b) (around 22 (11 * j + 341) b) → leb 3 d ≡ t
-    → three b (11 * j) 338 ≡ x → both t (both x (three b (11 * j) 342)) ≡ shiftedApart b j
+    → three b (11 * j) 338 ≡ x → t && (x && three b (11 * j) 342) ≡ shiftedApart b j
 unfolding shiftedApart apart
 found b j d t x e f g = three-tests t x (three b (11 * j) 342) (sym (ap (leb 3) e) ∙ f) g
 

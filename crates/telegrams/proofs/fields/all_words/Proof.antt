@@ -1,13 +1,12 @@
 -- `telegrams::fields::all_words` meets its contract. The loop's invariant: the test of all words is that of the words not yet passed.
 -- Assumes nothing.
 use mathlib.Core.Path.{_≡_, sym, ap, _∙_}
-use mathlib.Core.Bool.{Bool}
+use mathlib.Core.Bool.{Bool, _&&_}
 use Prim.Native.Nat.{ℕ, _+_, _*_, _-_, _≤_}
 use native.Mathlib.Omega.{arith}
 use borrow.Author.Needs.{needs}
 use borrow.Author.Tests.{not-true, not-false}
 use lib.ListN.{take, drop}
-use Rattle.bits.specs.Bits.{both}
 use Rattle.bits.proofs.AllBits.{allBits-drop}
 use Rattle.bits.proofs.Parts.{front-below}
 use Rattle.words.specs.Words.{inTable}
@@ -46,7 +45,7 @@ next : (c : tie.After-in-table Inv-loop μ-loop) (t : Bool) → c .in-table .res
     let l = c .before .before .before in
     let a = l .before .before .args in
     let j = l .loop .j in
-    allWords (a .k) (a .s .now) ≡ both t (allWords (a .k - (j + 1)) (drop (11 * (j + 1)) (a .s .now)))
+    allWords (a .k) (a .s .now) ≡ t && allWords (a .k - (j + 1)) (drop (11 * (j + 1)) (a .s .now))
 unfolding isWord
 next c t e =
     let l = c .before .before .before in
@@ -54,7 +53,7 @@ next c t e =
     let j = l .loop .j in
     let others = allWords (a .k - (j + 1)) (drop (11 * (j + 1)) (a .s .now)) in
     l .loop .inv .1 ∙ words-more (a .k) j (a .s .now) (omega arith)
-    ∙ ap (λ (w : Bool). both w others) (sym (c .in-table .ensures ∙ ap inTable (c .before .number .ensures)) ∙ e)
+    ∙ ap (λ (w : Bool). w && others) (sym (c .in-table .ensures ∙ ap inTable (c .before .number .ensures)) ∙ e)
 
 returns : tie.Need-returns Inv-loop μ-loop
 returns c = sym (next (c .before) _ (not-true _ (c .if1 .taken)))

@@ -6,7 +6,7 @@ use native.Mathlib.Omega.{arith}
 use lib.Bits.{bitXor}
 use lib.Dec.{T, ltb, ltb→lt}
 use lib.ListN.{length, getD, drop}
-use Rattle.bits.proofs.Both.{both-left, both-right}
+use Rattle.bits.proofs.And.{and-left, and-right}
 use Rattle.bits.proofs.Rest.{rest-more, rest-done}
 use Rattle.formats.specs.Value.{valueOf, powers, allBelow}
 use Rattle.formats.proofs.register.Register.of.Statement.{statement}
@@ -28,7 +28,7 @@ next es i h t =
     let u : T (allBelow 128 (getD es i 0 ∷ drop (i + 1) es)) = rw (rest-more es i h) at t in
     let test = ltb (getD es i 0) 128 in
     let others = allBelow 128 (drop (i + 1) es) in
-    (ltb→lt (getD es i 0) 128 (both-left test others u), both-right test others u)
+    (ltb→lt (getD es i 0) 128 (and-left test others u), and-right test others u)
 
 -- the next power goes into the sum
 more : (es : List ℕ) (i a : ℕ) → i < length es → powers a (drop i es) ≡ powers (bitXor a (2 ^ getD es i 0)) (drop (i + 1) es)

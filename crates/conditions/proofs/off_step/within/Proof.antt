@@ -1,4 +1,4 @@
--- `conditions::off_step::off_step` meets its contract. The loop's invariant: the places before p have passed. Assumes nothing.
+-- `conditions::off_step::within` meets its contract. The loop's invariant: the places before p have passed. Assumes nothing.
 use mathlib.Core.Path.{_≡_, sym, ap, ap₂, _∙_}
 use mathlib.Core.List.{List}
 use Prim.Native.Nat.{ℕ, _-_, _≤_}
@@ -9,15 +9,15 @@ use lib.Dec.{leb}
 use Rattle.formats.specs.declared.format.Format.{Format}
 use Rattle.formats.specs.Numbers.{numbersOf}
 use Rattle.conditions.specs.Runs.{validWords, longest}
-use Rattle.conditions.specs.Conditions.{limitAt, offStep, offStepAt}
+use Rattle.conditions.specs.Conditions.{limitAt, offStepWithin, offStepAt}
 use Rattle.conditions.proofs.Each.{Passed, passed-none, passed-more, passed-fails, passed-done}
 use Rattle.conditions.proofs.Sizes.{words-fill, sizes}
-use Rattle.conditions.proofs.off_step.off_step.Statement.{statement}
-use Rattle.conditions.proofs.off_step.off_step.Tie as tie
+use Rattle.conditions.proofs.off_step.within.Statement.{statement}
+use Rattle.conditions.proofs.off_step.within.Tie as tie
 
 abbrev Inv-loop : tie.InvT-loop
 Inv-loop format b count p₀ p =
-    (count ≡ numbersOf format .words - 1) × (1 ≤ p) × Passed (offStepAt format b) (offStep format b) p 11
+    (count ≡ numbersOf format .words - 1) × (1 ≤ p) × Passed (offStepAt format b) (offStepWithin format b) p 11
 
 abbrev μ-loop : tie.MeasureT-loop
 μ-loop format b count p₀ p = 11 - p
@@ -38,7 +38,7 @@ sub-count c =
     omega (arith, c .words .ensures, words-fill format, sizes format)
 
 loop-holds : tie.Need-loop-holds Inv-loop μ-loop
-unfolding offStep
+unfolding offStepWithin
 loop-holds c =
     let a = c .before .before .args in
     (ap (λ (w : ℕ). w - 1) (c .words .ensures), omega arith, passed-none (offStepAt (a .format) (a .b .now)) 1 10)
@@ -80,8 +80,8 @@ loop-again c =
 returns-2 : tie.Need-returns-2 Inv-loop μ-loop
 returns-2 c = passed-done (c .before .loop .inv .2) (omega arith)
 
-pub off-step-spec : {M : Type 1} → statement M
-off-step-spec =
+pub within-spec : {M : Type 1} → statement M
+within-spec =
     tie.close
     (tie.spec
     Inv-loop
