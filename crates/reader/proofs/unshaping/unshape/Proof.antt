@@ -1,13 +1,13 @@
 -- `reader::unshaping::unshape` meets its contract. The loop's invariant: the blocks of the first j words stand in front, the rest is as it
 -- was, and the test of all words is that of the words not yet passed. Assumes nothing.
 use mathlib.Core.Path.{_≡_, refl, sym, ap, ap₂, _∙_}
-use mathlib.Core.Bool.{Bool, true, false}
+use mathlib.Core.Bool.{Bool, true, false, _&&_}
 use mathlib.Core.List.{List, _++_}
 use Prim.Native.Nat.{ℕ, _+_, _*_, _-_, _≤_}
 use native.Mathlib.Omega.{arith}
 use borrow.Author.Needs.{needs}
 use lib.ListN.{length, take, drop, length-drop}
-use Rattle.bits.specs.Bits.{both, numberOf, bitsOf}
+use Rattle.bits.specs.Bits.{numberOf, bitsOf}
 use Rattle.bits.proofs.AllBits.{allBits-drop}
 use Rattle.bits.proofs.Parts.{front-below}
 use Rattle.bits.proofs.Tests.{fails}
@@ -79,7 +79,7 @@ returns c =
     let others = allWords (a .k - (j + 1)) (drop (11 * (j + 1)) (a .telegram .now)) in
     let none : allWords (a .k) (a .telegram .now) ≡ false =
     l .loop .inv .2 ∙ words-more (a .k) j (a .telegram .now) (omega arith)
-    ∙ ap (λ (t : Bool). both t others) (next (c .before .before) ∙ ap isNumber (c .enum-told .given .1)) in
+    ∙ ap (λ (t : Bool). t && others) (next (c .before .before) ∙ ap isNumber (c .enum-told .given .1)) in
     (ap wholeIf (sym none), λ h. absurd (fails (allWords (a .k) (a .telegram .now)) none h))
 
 mul-at : tie.Need-mul-at Inv-loop μ-loop
@@ -128,7 +128,7 @@ loop-again c =
     (l .loop .inv .3) (called .write-number .ensures) in (
       omega arith,
       omega arith,
-      l .loop .inv .2 ∙ words-more k j b (omega arith) ∙ ap (λ (t : Bool). both t others) (next look ∙ ap isNumber (word .i .given .1)),
+      l .loop .inv .2 ∙ words-more k j b (omega arith) ∙ ap (λ (t : Bool). t && others) (next look ∙ ap isNumber (word .i .given .1)),
       written
           ∙ ap₂ (λ (front : List ℕ) (p : ℕ). front ++ drop p old) (ap (λ (x : ℕ). unshaped j b ++ bitsOf 10 x) number ∙ sym (unshaped-more j b)) place,
     )
