@@ -1,0 +1,61 @@
+-- `captures::search_read` meets its contract. Assumes nothing.
+use mathlib.Core.Path.{_≡_, sym, _∙_}
+use mathlib.Core.Bool.{true}
+use Prim.Native.Nat.{_≤_}
+use native.Mathlib.Omega.{arith}
+use borrow.Author.Needs.{needs}
+use borrow.Author.Tests.{not-true, not-false, le-leb, lt-leb}
+use lib.ListN.{length}
+use Rattle.bits.specs.Bits.{allBits}
+use Rattle.bits.proofs.Tests.{holds}
+use Rattle.refusals.proofs.Table.{passed, failed}
+use Rattle.captures.specs.Captures.{captureLimit, searchReadTable}
+use Rattle.captures.proofs.Steps.{read-decided, by-place}
+use Rattle.captures.proofs.search_read.Statement.{statement}
+use Rattle.captures.proofs.search_read.Tie as tie
+
+returns : tie.Need-returns
+unfolding searchReadTable
+returns c = read-decided _ _ _ (failed (lt-leb _ captureLimit (omega arith)))
+
+all-bits-requires : tie.Need-all-bits-requires
+all-bits-requires c κs = search needs
+
+-- the capture is within the limit
+within : (c : tie.After-all-bits) → length (c .before .before .before .args .capture .now) ≤ captureLimit
+within c = omega arith
+
+returns-2 : tie.Need-returns-2
+unfolding searchReadTable
+returns-2 c =
+    read-decided _ _ _
+    (passed (le-leb _ captureLimit (within (c .before))) (failed (sym (c .before .all-bits .ensures) ∙ not-true _ (c .if2 .taken))))
+
+-- all its bytes are bits
+bits : (c : tie.Else2) → allBits (c .before .before .before .before .args .capture .now) ≡ true
+bits c = sym (c .before .all-bits .ensures) ∙ not-false _ (c .if2 .left)
+
+returns-3 : tie.Need-returns-3
+unfolding searchReadTable
+returns-3 c = ?
+
+search-bits-requires : tie.Need-search-bits-requires
+search-bits-requires c κs = ?
+
+same-length : tie.Need-same-length
+same-length c = search needs
+
+returns-4 : tie.Need-returns-4
+returns-4 c = ?
+
+pub search-read-spec : {M : Type 1} → statement M
+search-read-spec =
+    tie.close
+    (tie.spec
+    returns
+    all-bits-requires
+    returns-2
+    returns-3
+    search-bits-requires
+    same-length
+    returns-4)
