@@ -9,11 +9,12 @@ use native.Mathlib.Numerals.{add-one}
 use native.Mathlib.Omega.{arith}
 use lib.Dec.{T}
 use lib.ListN.{length, take, drop, length-append, length-drop}
-use lib.Seq.{take-at, drop-at, take-add, drop-drop, take-append-le, drop-append-le}
+use lib.Seq.{take-add, drop-drop, take-append-le, drop-append-le}
 use Rattle.bits.specs.Bits.{allBits}
 use Rattle.bits.specs.Groups.{overGroups, eachGroup, everyGroup}
 use Rattle.bits.proofs.AllBits.{allBits-nil, allBits-append, allBits-drop}
 use Rattle.bits.proofs.And.{and-left, and-right, and-of}
+use Rattle.bits.proofs.Parts.{front-is, rest-is}
 
 -- one group and k more
 one-more : (w k : ℕ) → w + w * k ≡ w * suc k
@@ -88,9 +89,8 @@ module _ (f : List ℕ → List ℕ) (w v : ℕ) (size : (s : List ℕ) → leng
   pub first-groups : (j k : ℕ) (s rest : List ℕ) → take (v * j) (eachGroup f w (j + k) s ++ rest) ≡ eachGroup f w j s
   first-groups j k s rest =
       let others = eachGroup f w k (drop (w * j) s) in
-      ap (λ (l : List ℕ). take (v * j) (l ++ rest)) (groups-add _++_ [] f w (λ a. refl) append-assoc j k s)
-      ∙ ap (take (v * j)) (append-assoc (eachGroup f w j s) others rest)
-      ∙ take-at (eachGroup f w j s) (others ++ rest) (v * j) (length-groups j s)
+      front-is (eachGroup f w j s) (others ++ rest) _ (v * j) (length-groups j s)
+      (ap (λ (l : List ℕ). l ++ rest) (groups-add _++_ [] f w (λ a. refl) append-assoc j k s) ∙ append-assoc (eachGroup f w j s) others rest)
 
   -- what g tells of those is what g after f tells
   pub groups-of-groups : {A : Type 0} (op : A → A → A) (e : A) (g : List ℕ → A) (k : ℕ) (s rest : List ℕ)
@@ -102,8 +102,8 @@ module _ (f : List ℕ → List ℕ) (w v : ℕ) (size : (s : List ℕ) → leng
       let others = eachGroup f w k (drop w s) ++ rest in
       let split = append-assoc group (eachGroup f w k (drop w s)) rest in
       ap₂ (λ (x l : List ℕ). op (g x) (overGroups op e g v k l))
-      (ap (take v) split ∙ take-at group others v (size (take w s)))
-      (ap (drop v) split ∙ drop-at group others v (size (take w s)))
+      (front-is group others _ v (size (take w s)) split)
+      (rest-is group others _ v (size (take w s)) split)
       ∙ ap (op (g group)) (groups-of-groups op e g k (drop w s) rest)
 
 -- ---- groups of bits that pass a test
