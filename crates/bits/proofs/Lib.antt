@@ -5,6 +5,7 @@ pub mod Equal
 pub mod First
 pub mod Flipped
 pub mod Groups
+pub mod Left
 pub mod Mask
 pub mod Numbers
 pub mod Parts
