@@ -4,6 +4,8 @@ pub mod Differences
 pub mod Equal
 pub mod First
 pub mod Flipped
+pub mod Groups
+pub mod Left
 pub mod Mask
 pub mod Numbers
 pub mod Parts

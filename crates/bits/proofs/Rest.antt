@@ -7,6 +7,14 @@ use native.Mathlib.Omega.{arith}
 use lib.ListN.{length, getD, take, drop, drop-of-length-le}
 use lib.Seq.{drop-cons}
 
+-- of k numbers, i of them passed, one is next, and the rest after it
+pub count-more : {i k : ℕ} → i < k → k - i ≡ suc (k - (i + 1))
+count-more h = omega arith
+
+-- all of them are passed
+pub count-done : {i k : ℕ} → k ≤ i → k - i ≡ 0
+count-done h = omega arith
+
 -- one element is next, and the rest after it
 pub rest-more : (s : List ℕ) (i : ℕ) → i < length s → drop i s ≡ getD s i 0 ∷ drop (i + 1) s
 rest-more s i h = drop-cons s i 0 h ∙ ap (λ (n : ℕ). getD s i 0 ∷ drop n s) (sym (add-one i))
@@ -19,13 +27,10 @@ rest-done s i h = drop-of-length-le s h
 pub part-more : (s : List ℕ) (at k i : ℕ) → i < k → at + k ≤ length s
     → take (k - i) (drop (at + i) s) ≡ getD s (at + i) 0 ∷ take (k - (i + 1)) (drop (at + (i + 1)) s)
 part-more s at k i h within =
-    let count : k - i ≡ suc (k - (i + 1)) = omega arith in
     let place : at + i + 1 ≡ at + (i + 1) = omega arith in
     let below : at + i < length s = omega arith in
-    rw (count, rest-more s (at + i) below, place)
+    rw (count-more h, rest-more s (at + i) below, place)
 
 -- of k elements all are passed
 pub part-done : (s : List ℕ) (k i : ℕ) → k ≤ i → take (k - i) s ≡ []
-part-done s k i h =
-    let none : k - i ≡ 0 = omega arith in
-    rw none
+part-done s k i h = rw (count-done h)

@@ -7,6 +7,7 @@ use native.Mathlib.Numerals.{add-one}
 use native.Mathlib.Omega.{arith}
 use lib.Dec.{T}
 use Rattle.bits.proofs.And.{and-left, and-right}
+use Rattle.bits.proofs.Rest.{count-more, count-done}
 use Rattle.conditions.specs.Conditions.{each}
 
 -- where it holds of each it holds of the j-th
@@ -28,16 +29,12 @@ each-same s t i (suc k) e = rw (e i, each-same s t (suc i) k e)
 -- one number is next, and the rest after it
 pub each-more : (test : ℕ → Bool) (i e : ℕ) → i < e → each test i (e - i) ≡ test i && each test (i + 1) (e - (i + 1))
 unfolding each
-each-more test i e h =
-    let count : e - i ≡ suc (e - (i + 1)) = omega arith in
-    rw (count, add-one i)
+each-more test i e h = rw (count-more h, add-one i)
 
 -- no number is left
 pub each-done : (test : ℕ → Bool) (i e : ℕ) → e ≤ i → each test i (e - i) ≡ true
 unfolding each
-each-done test i e h =
-    let none : e - i ≡ 0 = omega arith in
-    rw none
+each-done test i e h = rw (count-done h)
 
 -- a loop that tests numbers up to e: those before i have passed, so that the answer for the whole is the one for the rest
 pub record Passed (test : ℕ → Bool) (whole : Bool) (i e : ℕ) : Type 0 where

@@ -1,4 +1,5 @@
 pub mod Each
+pub mod Proper
 pub mod Round
 pub mod Runs
 pub mod Sizes

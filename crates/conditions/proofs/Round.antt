@@ -9,8 +9,9 @@ use native.Mathlib.Numerals.{add-one}
 use native.Mathlib.Omega.{arith}
 use lib.ListN.{length, getD}
 use Rattle.bits.specs.Bits.{around}
+use Rattle.bits.proofs.Rest.{count-more, count-done}
 use Rattle.bits.proofs.Ring.{around-period}
-use Rattle.telegrams.specs.Fields.{isWord}
+use Rattle.words.specs.Words.{isWord}
 use Rattle.conditions.specs.Runs.{validWords}
 
 -- places count modulo the length
@@ -29,16 +30,13 @@ pub around-more : (k i p : ℕ) (b : List ℕ) → i < k → p < length b
     → around (k - i) p b ≡ getD b p 0 ∷ around (k - (i + 1)) ((p + 1) % length b) b
 unfolding around
 around-more k i p b h inside =
-    let count : k - i ≡ suc (k - (i + 1)) = omega arith in
-    ap (λ (x : ℕ). around x p b) count
+    ap (λ (x : ℕ). around x p b) (count-more h)
     ∙ ap₂ (λ (x : ℕ) (l : List ℕ). getD b x 0 ∷ l) (mod-eq-of-lt inside)
     (ap (λ (x : ℕ). around (k - (i + 1)) x b) (sym (add-one p)) ∙ sym (around-mod (k - (i + 1)) (p + 1) b))
 
 pub around-done : (k i p : ℕ) (b : List ℕ) → k ≤ i → around (k - i) p b ≡ []
 unfolding around
-around-done k i p b h =
-    let none : k - i ≡ 0 = omega arith in
-    ap (λ (x : ℕ). around x p b) none
+around-done k i p b h = ap (λ (x : ℕ). around x p b) (count-done h)
 
 pub validWords-mod : (k p : ℕ) (b : List ℕ) → validWords k (p % length b) b ≡ validWords k p b
 unfolding validWords
@@ -53,15 +51,12 @@ pub validWords-more : (k i p : ℕ) (b : List ℕ) → i < k
     → validWords (k - i) p b ≡ isWord (around 11 p b) ∷ validWords (k - (i + 1)) ((p + 11) % length b) b
 unfolding validWords
 validWords-more k i p b h =
-    let count : k - i ≡ suc (k - (i + 1)) = omega arith in
-    ap (λ (x : ℕ). validWords x p b) count
+    ap (λ (x : ℕ). validWords x p b) (count-more h)
     ∙ ap (λ (l : List Bool). isWord (around 11 p b) ∷ l) (sym (validWords-mod (k - (i + 1)) (p + 11) b))
 
 pub validWords-done : (k i p : ℕ) (b : List ℕ) → k ≤ i → validWords (k - i) p b ≡ []
 unfolding validWords
-validWords-done k i p b h =
-    let none : k - i ≡ 0 = omega arith in
-    ap (λ (x : ℕ). validWords x p b) none
+validWords-done k i p b h = ap (λ (x : ℕ). validWords x p b) (count-done h)
 
 -- first j words, then the rest
 pub validWords-append : (j k p : ℕ) (b : List ℕ) → validWords (j + k) p b ≡ validWords j p b ++ validWords k (p + 11 * j) b

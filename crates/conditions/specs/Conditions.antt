@@ -19,6 +19,10 @@ unfoldable pub each : (ℕ → Bool) → ℕ → ℕ → Bool
 each test i zero = true
 each test i (suc k) = test i && each test (suc i) k
 
+-- the test holds of each number from a to b
+abbrev pub fromTo : ℕ → ℕ → (ℕ → Bool) → Bool
+fromTo a b test = each test a (suc b - a)
+
 -- condition 2. At most 2 valid words in a run for p = 1 and 10; otherwise 10 long, 6 short
 abbrev pub offStepLimit : Format → ℕ
 offStepLimit Long = 10
@@ -32,21 +36,19 @@ unfoldable pub offStepAt : Format → List ℕ → ℕ → Bool
 offStepAt format b p = leb (longest (validWords (numbersOf format .words - 1) p b)) (limitAt format p)
 
 unfoldable pub offStepWithin : Format → List ℕ → Bool
-offStepWithin format b = each (offStepAt format b) 1 10
+offStepWithin format b = fromTo 1 10 (offStepAt format b)
 
--- condition 3. The 22 bits from place p and those from place q differ in at least d places
+-- condition 3. The 22 bits from place p differ in at least d places from those that stand k places on
 unfoldable pub apart : ℕ → List ℕ → ℕ → ℕ → Bool
-apart d b p q = leb d (differences (around 22 p b) (around 22 q b))
+apart d b p k = leb d (differences (around 22 p b) (around 22 (p + k) b))
 
--- at word j: at least 3 from the bits 341 on, and at least 2 from those 338 to 344 on otherwise
+-- b(i-1) stands at place p, b(i-341-1) 341 places on, and b(i-341-k-1) 341+k places on: for k = 1, -1, 2, -2, 3, -3
 unfoldable pub shiftedApart : List ℕ → ℕ → Bool
-shiftedApart b j =
-    apart 3 b (11 * j) (11 * j + 341)
-    && (each (λ (k : ℕ). apart 2 b (11 * j) (11 * j + k)) 338 3
-    && each (λ (k : ℕ). apart 2 b (11 * j) (11 * j + k)) 342 3)
+shiftedApart b p = apart 3 b p 341 && fromTo 1 3 (λ (k : ℕ). apart 2 b p (341 + k) && apart 2 b p (341 - k))
 
+-- i divisible by 11 is p divisible by 11, since n is
 unfoldable pub notRepeating : Format → List ℕ → Bool
-notRepeating Long b = each (shiftedApart b) 0 (numbersOf Long .words)
+notRepeating Long b = fromTo 0 92 (λ (j : ℕ). shiftedApart b (11 * j))
 notRepeating Short b = true
 
 -- condition 4. v(j) = b(j*2^k) for j from n-1 down to 0
@@ -62,10 +64,10 @@ unfoldable pub thinnedAt : Format → List ℕ → ℕ → Bool
 thinnedAt format v a = leb (longestRound (validWords (numbersOf format .words) a v)) 30
 
 unfoldable pub thinnedBy : Format → List ℕ → ℕ → Bool
-thinnedBy format b k = each (thinnedAt format (thinned k b)) 0 11
+thinnedBy format b k = fromTo 0 10 (thinnedAt format (thinned k b))
 
 unfoldable pub thinnedWithin : Format → List ℕ → Bool
-thinnedWithin format b = each (thinnedBy format b) 1 4
+thinnedWithin format b = fromTo 1 4 (thinnedBy format b)
 
 -- well-formed, and conditions 2, 3 and 4
 unfoldable pub proper : Format → List ℕ → Bool

@@ -11,8 +11,8 @@ use formats::format::Format;
 
 pub mod off_step;
 pub mod repeating;
-pub mod ring;
-pub mod run;
+mod ring;
+mod run;
 pub mod thinned;
 
 // Whether conditions 2, 3 and 4 hold.

@@ -1,12 +1,12 @@
 // Condition 3, of the long format only (document 01, "Four conditions of a proper telegram").
 ghost use mathlib.Core.Path.{_≡_};
-ghost use Prim.Native.Nat.{ℕ, _+_, _≤_, _<_};
+ghost use Prim.Native.Nat.{ℕ, _+_, _*_, _≤_, _<_};
 ghost use lib.Dec.{T};
 ghost use lib.ListN.{length};
 ghost use Rattle.bits.specs.Bits.{allBits, around};
 ghost use Rattle.bits.specs.Differences.{differences};
-ghost use Rattle.formats.specs.Numbers.{numbersOf};
-ghost use Rattle.conditions.specs.Conditions.{each, apart, shiftedApart, notRepeating};
+ghost use Rattle.formats.specs.Numbers.{long, numbersOf};
+ghost use Rattle.conditions.specs.Conditions.{fromTo, apart, shiftedApart, notRepeating};
 use crate::ring;
 use formats::format::Format;
 use formats::format::Long;
@@ -31,41 +31,40 @@ fn differing(b: &[u8], p: usize, k: usize) -> usize
     count
 }
 
-// Whether the 22 bits from place p differ in at least 2 places from those that stand k places on, for three k from first on.
-fn three_apart(b: &[u8], p: usize, first: usize) -> bool
-    requires { ⌜ (p < length (now b)) × (first + 3 ≤ length (now b)) ⌝ }
-    ensures { λ r. ⌜ r ≡ each (λ (k : ℕ). apart 2 (now (b .entry)) p (p + k)) first 3 ⌝ }
+// Whether the 22 bits from place p differ in at least d places from those that stand k places on.
+fn apart(d: usize, b: &[u8], p: usize, k: usize) -> bool
+    requires { ⌜ (p < length (now b)) × (k ≤ length (now b)) ⌝ }
+    ensures { λ r. ⌜ r ≡ apart d (now (b .entry)) p k ⌝ }
 {
-    for k in first..first + 3 {
-        if differing(b, p, k) < 2 {
+    d <= differing(b, p, k)
+}
+
+// Whether condition 3 holds where b(i-1) stands at place p, and b(i-341-k-1) 341+k places on.
+fn shifted_apart(b: &[u8], p: usize) -> bool
+    requires { ⌜ (length (now b) ≡ long .n) × (p < long .n) ⌝ }
+    ensures { λ r. ⌜ r ≡ shiftedApart (now (b .entry)) p ⌝ }
+{
+    if !apart(3, b, p, 341) {
+        return false;
+    }
+    for k in 1..4 {
+        if !apart(2, b, p, 341 + k) {
+            return false;
+        }
+        if !apart(2, b, p, 341 - k) {
             return false;
         }
     }
     true
 }
 
-// Whether condition 3 holds at word j.
-fn shifted_apart(b: &[u8], j: usize) -> bool
-    requires { ⌜ (length (now b) ≡ 1023) × (j < 93) ⌝ }
-    ensures { λ r. ⌜ r ≡ shiftedApart (now (b .entry)) j ⌝ }
-{
-    let p = 11 * j;
-    if differing(b, p, 341) < 3 {
-        return false;
-    }
-    if !three_apart(b, p, 338) {
-        return false;
-    }
-    three_apart(b, p, 342)
-}
-
 // Whether condition 3 holds at each word of a long telegram.
 fn each_shifted_apart(b: &[u8]) -> bool
-    requires { ⌜ length (now b) ≡ 1023 ⌝ }
-    ensures { λ r. ⌜ r ≡ each (shiftedApart (now (b .entry))) 0 93 ⌝ }
+    requires { ⌜ length (now b) ≡ long .n ⌝ }
+    ensures { λ r. ⌜ r ≡ fromTo 0 92 (λ (j : ℕ). shiftedApart (now (b .entry)) (11 * j)) ⌝ }
 {
     for j in 0..Long::WORDS {
-        if !shifted_apart(b, j) {
+        if !shifted_apart(b, 11 * j) {
             return false;
         }
     }

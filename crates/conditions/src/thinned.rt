@@ -5,15 +5,16 @@ ghost use Prim.Native.Nat.{_≤_, _<_};
 ghost use lib.Dec.{T};
 ghost use lib.ListN.{length, drop};
 ghost use Rattle.bits.specs.Bits.{allBits};
-ghost use Rattle.formats.specs.Numbers.{numbersOf};
-ghost use Rattle.conditions.specs.Conditions.{each, thinnedBelow, thinnedAt, thinnedBy, thinnedWithin};
+ghost use Rattle.formats.specs.Numbers.{long, numbersOf};
+ghost use Rattle.conditions.specs.Conditions.{fromTo, thinnedBelow, thinnedAt, thinnedBy, thinnedWithin};
 use crate::run;
 use formats::format;
 use formats::format::Format;
+use formats::format::Long;
 
 // Writes v(n-1) to v0, v(j) = b(j*step), over the front of out.
 fn thin(b: &[u8], step: usize, out: &mut [u8])
-    requires { ⌜ (length (now b) ≤ length (now out)) × ((length (now b) ≤ 1023) × (step ≤ 16)) ⌝ }
+    requires { ⌜ (length (now b) ≤ length (now out)) × ((length (now b) ≤ long .n) × (step ≤ 16)) ⌝ }
     ensures { λ _. ⌜ now (out .exit) ≡ thinnedBelow (length (now (b .entry))) step (now (b .entry)) ++ drop (length (now (b .entry))) (now (out .entry)) ⌝ }
 {
     let n = b.len();
@@ -27,7 +28,7 @@ fn thin(b: &[u8], step: usize, out: &mut [u8])
 // Whether at each of the 11 alignments no run round the ring of v exceeds 30.
 fn within_round(format: Format, v: &[u8]) -> bool
     requires { ⌜ T (allBits (now v)) × (length (now v) ≡ numbersOf format .n) ⌝ }
-    ensures { λ r. ⌜ r ≡ each (thinnedAt format (now (v .entry))) 0 11 ⌝ }
+    ensures { λ r. ⌜ r ≡ fromTo 0 10 (thinnedAt format (now (v .entry))) ⌝ }
 {
     let words = format::words(format);
     for a in 0..11 {
@@ -43,7 +44,7 @@ fn thinned_by(format: Format, b: &[u8], k: usize) -> bool
     requires { ⌜ T (allBits (now b)) × ((length (now b) ≡ numbersOf format .n) × (k ≤ 4)) ⌝ }
     ensures { λ r. ⌜ r ≡ thinnedBy format (now (b .entry)) k ⌝ }
 {
-    let mut v = [0u8; 1023];
+    let mut v = [0u8; Long::N];
     thin(b, 1 << k, &mut v);
     let n = b.len();
     within_round(format, &v[..n])

@@ -2,7 +2,7 @@
 -- Assumes nothing.
 use Prim.Native.Nat.{ℕ, zero, suc, _+_, _-_, _<_, _≤_}
 use mathlib.Core.Path.{_≡_, refl, sym, ap, subst, subst₂, _∙_}
-use mathlib.Core.Bool.{Bool, true, false, not, cond}
+use mathlib.Core.Bool.{not}
 use mathlib.Core.List.{List, [], _∷_, _++_, append-assoc}
 use native.Mathlib.Numerals.{add-one}
 use native.Mathlib.Decide.{decLt}
@@ -10,13 +10,15 @@ use native.Mathlib.Omega.{arith}
 use lib.Dec.{T, T-not, lit<}
 use lib.ListN.{drop, replicate-append-replicate}
 use Rattle.bits.specs.Bits.{same}
+use Rattle.bits.specs.Search.{First, found, none as missing, firstOf}
 use Rattle.formats.specs.Numbers.{Numbers, fOf, gOf}
 use Rattle.cyclic.specs.declared.Turn.{Turn}
 use Rattle.cyclic.specs.declared.Turn.the-variants.{At, Nothing}
 use Rattle.cyclic.specs.Remainder.{step, remainder}
-use Rattle.cyclic.specs.Check.{turnRemainder, turnAmong, turnOf}
+use Rattle.cyclic.specs.Check.{turnRemainder, leaves, turnFrom, turnOf}
 use Rattle.bits.proofs.And.{and-left, and-right}
-use Rattle.bits.proofs.Equal.{same-equal, same-of}
+use Rattle.bits.proofs.Equal.{same-of, same-true, equal-same}
+use Rattle.bits.proofs.First.{Says, first-says, not-both}
 use Rattle.bits.proofs.Tests.{clash}
 use Rattle.cyclic.proofs.Lists.{zeros}
 use Rattle.cyclic.proofs.Space.{pow, pow-X, pow-nil, pow-add, one-turn}
@@ -81,48 +83,25 @@ turn-next F s =
     ap (remainder (fOf F)) (ap (λ (v : List ℕ). gOf F ++ v) (sym (replicate-append-replicate s 1 0)) ∙ sym (append-assoc (gOf F) (zeros s) (0 ∷ [])))
     ∙ remainder-next (fOf F) (gOf F ++ zeros s) 0
 
--- a search never answers both a turn and none
-at-nothing : {t : ℕ} → At t ≡ Nothing → ⊥
-at-nothing e = clash cc
-
--- what a search answers is among those searched, and leaves v
-found-among : (F : Numbers) (k s t : ℕ) (v : List ℕ) → turnAmong F k s v ≡ At t → (s ≤ t) × (t < s + k) × (turnRemainder F t ≡ v)
-unfolding turnAmong
-found-among F zero s t v e = absurd (at-nothing (sym e))
-found-among F (suc k) s t v e = go (same (turnRemainder F s) v) refl (found-among F k (suc s) t v) e
-  where
-    go : (b : Bool) → same (turnRemainder F s) v ≡ b
-        → (turnAmong F k (suc s) v ≡ At t → (suc s ≤ t) × (t < suc s + k) × (turnRemainder F t ≡ v))
-        → cond b (At s) (turnAmong F k (suc s) v) ≡ At t → (s ≤ t) × (t < s + suc k) × (turnRemainder F t ≡ v)
-    go true test below e =
-        let at : s ≡ t = cc in
-        (omega arith, omega arith, ap (turnRemainder F) (sym at) ∙ same-equal (turnRemainder F s) v (subst T (sym test) tt))
-    go false test below e = let r = below e in (omega (arith, r .0), omega (arith, r .1), r .2)
-
--- a search that answers none has none among those searched
-none-among : (F : Numbers) (k s t : ℕ) (v : List ℕ) → turnAmong F k s v ≡ Nothing → s ≤ t → t < s + k → turnRemainder F t ≡ v → ⊥
-unfolding turnAmong
-none-among F zero s t v e l h r = omega arith
-none-among F (suc k) s t v e l h r = go (same (turnRemainder F s) v) refl (none-among F k (suc s) t v) e
-  where
-    go : (b : Bool) → same (turnRemainder F s) v ≡ b
-        → (turnAmong F k (suc s) v ≡ Nothing → suc s ≤ t → t < suc s + k → turnRemainder F t ≡ v → ⊥)
-        → cond b (At s) (turnAmong F k (suc s) v) ≡ Nothing → ⊥
-    go true test below e = at-nothing e
-    go false test below e =
-        let apart : s ≡ t → ⊥ = λ (at : s ≡ t).
-        subst T test (same-of (turnRemainder F s) v (ap (turnRemainder F) at ∙ r)) in
-        below e (omega arith) (omega arith) r
-
 -- the turn that is answered is below n and leaves v
 pub turnOf-at : (F : Numbers) (t : ℕ) (v : List ℕ) → turnOf F v ≡ At t → (t < F .n) × (turnRemainder F t ≡ v)
 unfolding turnOf
-turnOf-at F t v e = let r = found-among F (F .n) 0 t v e in (omega (arith, r .1), r .2)
+turnOf-at F t v e = go (firstOf (leaves F v) 0 (F .n)) (first-says (leaves F v) 0 (F .n)) e
+  where
+    go : (a : First) → Says (leaves F v) 0 (F .n) a → turnFrom a ≡ At t → (t < F .n) × (turnRemainder F t ≡ v)
+    go (found s) f e =
+        let at : s ≡ t = cc in
+        rw (← at) (omega (arith, f .below), same-true (turnRemainder F s) v (f .passed))
+    go missing f e = clash cc
 
 -- where none is answered, none below n leaves v
 pub turnOf-nothing : (F : Numbers) (v : List ℕ) → turnOf F v ≡ Nothing → (t : ℕ) → t < F .n → turnRemainder F t ≡ v → ⊥
 unfolding turnOf
-turnOf-nothing F v e t h r = none-among F (F .n) 0 t v e (omega arith) (omega arith) r
+turnOf-nothing F v e t h r = go (firstOf (leaves F v) 0 (F .n)) (first-says (leaves F v) 0 (F .n)) e
+  where
+    go : (a : First) → Says (leaves F v) 0 (F .n) a → turnFrom a ≡ Nothing → ⊥
+    go (found s) f e = clash cc
+    go missing f e = not-both (leaves F v t) (equal-same (turnRemainder F t) v r) (f t (omega arith) (omega arith))
 
 -- from the remainder at a turn, that turn is answered
 pub turnOf-turn : (F : Numbers) → Facts F → (t : ℕ) → t < F .n → turnOf F (turnRemainder F t) ≡ At t

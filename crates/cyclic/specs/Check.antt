@@ -1,10 +1,11 @@
 -- The check bits, and the turn of a window from its remainder by f (document 01, "Check bits" and "Search, reading and place").
 -- Assumes nothing.
-use Prim.Native.Nat.{ℕ, zero, suc, _-_}
-use mathlib.Core.Bool.{Bool, cond}
+use Prim.Native.Nat.{ℕ, _-_}
+use mathlib.Core.Bool.{Bool}
 use mathlib.Core.List.{List, _++_}
 use lib.ListN.{length, take, drop, replicate}
 use Rattle.bits.specs.Bits.{same}
+use Rattle.bits.specs.Search.{First, found, none, firstOf}
 use Rattle.formats.specs.Polynomial.{sum}
 use Rattle.formats.specs.Numbers.{Numbers, fOf, gOf, fgOf}
 use Rattle.cyclic.specs.declared.Turn.{Turn}
@@ -27,14 +28,17 @@ turned t b = drop t b ++ take t b
 unfoldable pub turnRemainder : Numbers → ℕ → List ℕ
 turnRemainder F s = remainder (fOf F) (gOf F ++ replicate s 0)
 
--- the first turn from s on, of the next k, whose remainder by f is v
-unfoldable pub turnAmong : Numbers → ℕ → ℕ → List ℕ → Turn
-turnAmong F zero s v = Nothing
-turnAmong F (suc k) s v = cond (same (turnRemainder F s) v) (At s) (turnAmong F k (suc s) v)
+-- the remainder by f of a telegram turned by s is v
+abbrev pub leaves : Numbers → List ℕ → ℕ → Bool
+leaves F v s = same (turnRemainder F s) v
+
+abbrev pub turnFrom : First → Turn
+turnFrom (found s) = At s
+turnFrom none = Nothing
 
 -- the turn, 0 to n-1, whose remainder by f is v, or none
 unfoldable pub turnOf : Numbers → List ℕ → Turn
-turnOf F v = turnAmong F (F .n) 0 v
+turnOf F v = turnFrom (firstOf (leaves F v) 0 (F .n))
 
 -- g divides b
 unfoldable pub divisible : Numbers → List ℕ → Bool

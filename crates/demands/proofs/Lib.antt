@@ -2,14 +2,9 @@
 -- `CutAccepted` and `AcceptedCut`. Demand 3: `Demand3`, by way of `Wrote` (a telegram that encode wrote), `ShortFromLong` (a short window of a
 -- long one) and `LongFromShort` (a long window of a short one).
 pub mod Lengths
-pub mod Fronts
 pub mod Encoder
 pub mod EncodeExact
-pub mod ReadExact
 pub mod Demand1
-pub mod CutAccepted
-pub mod AcceptedCut
-pub mod Reader
 pub mod Demand2
 pub mod Wrote
 pub mod ShortFromLong

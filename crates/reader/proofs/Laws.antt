@@ -17,8 +17,8 @@ use Rattle.telegrams.proofs.WellFormed.{scrambling-below}
 use Rattle.reader.specs.declared.Reading.{Reading}
 use Rattle.reader.specs.declared.ReadAnswer.{ReadAnswer}
 use Rattle.reader.specs.declared.ReadAnswer.the-variants.{Read, Refused}
-use Rattle.reader.specs.Reads.{formatOf, endsAgree, turnIn, telegramIn, readTable, readingOf, readingIn, userBitsIn, readAs, readOf, readsAs}
-use Rattle.reader.proofs.Steps.{read-as}
+use Rattle.reader.specs.Reads.{formatOf, endsAgree, turnIn, telegramIn, readTable, readingOf, readingIn, userBitsIn, readOut, readAs, readOf, readsAs}
+use Rattle.reader.proofs.Steps.{decided, any-window, read-as}
 use Rattle.reader.proofs.Accepted.{accepted-passed, passed-accepted, with-room, reads-passed}
 use Rattle.reader.proofs.Turns.{turn-leaves}
 use Rattle.reader.proofs.Parts.Found.{bits-found}
@@ -46,13 +46,15 @@ module _ (format : Format) (w : List ℕ) where
 
 -- ---- what is answered for a window that is to be a format's
 
--- what is answered where it is accepted
-abbrev pub readOut : Format → List ℕ → List ℕ → Outcome ReadAnswer
-readOut format w out = outcome (Read (readingIn format w)) (userBitsIn format w ++ drop (numbersOf format .m) out)
+-- the parts of an outcome, and of outcomes that are the same
+abbrev answerOf : Outcome ReadAnswer → ReadAnswer
+answerOf x = x .answer
 
--- the parts of outcomes that are the same
+abbrev outputOf : Outcome ReadAnswer → List ℕ
+outputOf x = x .output
+
 parts : {a b : ReadAnswer} {o p : List ℕ} → outcome a o ≡ outcome b p → (a ≡ b) × (o ≡ p)
-parts e = (ap (λ (y : Outcome ReadAnswer). y .answer) e, ap (λ (y : Outcome ReadAnswer). y .output) e)
+parts e = (ap answerOf e, ap outputOf e)
 
 -- a refusal is no reading
 refused-read : {A : Type 0} {r : Refusal} {reading : Reading} {o p : List ℕ} → outcome (Refused r) o ≡ outcome (Read reading) p → A
@@ -69,22 +71,17 @@ module _ (format : Format) (w out : List ℕ) where
       ⊎ (T (readsAs format w) × (numbersOf format .m ≤ length out) × (readAs format w out ≡ readOut format w out))
 
   pub read-or-refused : Refused⊎Read
-  unfolding readAs
   read-or-refused = go (verdict (readTable format (length out) w)) refl
     where
-      go : (v : Verdict Refusal) → verdict (readTable format (length out) w) ≡ v
-          → ((r : Refusal) × (answerBy (λ (r : Refusal). outcome (Refused r) out) (readOut format w out) v ≡ outcome (Refused r) out))
-          ⊎ (T (readsAs format w) × (numbersOf format .m ≤ length out)
-          × (answerBy (λ (r : Refusal). outcome (Refused r) out) (readOut format w out) v ≡ readOut format w out))
-      go (refused r) e = inl (r, refl)
+      go : (v : Verdict Refusal) → verdict (readTable format (length out) w) ≡ v → Refused⊎Read
+      go (refused r) e = inl (r, decided format w out (refused r) e)
       go accepted e =
           let p = accepted-passed format (length out) w e in
-          inr (reads-passed format w .1 (p .1), p .0, refl)
+          inr (reads-passed format w .1 (p .1), p .0, decided format w out accepted e)
 
   -- accepted where it is read, with room
   pub reads-out : T (readsAs format w) → numbersOf format .m ≤ length out → readAs format w out ≡ readOut format w out
-  unfolding readAs
-  reads-out h room = rw (passed-accepted format (length out) w room (reads-passed format w .0 h))
+  reads-out h room = decided format w out accepted (passed-accepted format (length out) w room (reads-passed format w .0 h))
 
   pub reads-as : T (readsAs format w) → numbersOf format .m ≤ length out → readOf w out ≡ readOut format w out
   reads-as h room = read-as format w out (reads-size format w h) ∙ reads-out h room
@@ -116,14 +113,13 @@ module _ (format : Format) (w out : List ℕ) where
       go (inl (q, f)) = (parts (sym e ∙ f) .1, λ room. is-false (readsAs format w) (λ h. refused-read (sym e ∙ reads-out h room)))
       go (inr (h, room, f)) = refused-read (sym e ∙ f)
 
--- what was read as the format's, with room, says nothing of the output
+-- every output with room gives the same answer
 pub answer-as : (format : Format) (w out out′ : List ℕ) → numbersOf format .m ≤ length out → numbersOf format .m ≤ length out′
     → readAs format w out .answer ≡ readAs format w out′ .answer
-unfolding readAs
 answer-as format w out out′ room room′ =
-    ap (λ (v : Verdict Refusal). answerBy (λ (r : Refusal). outcome (Refused r) out) (readOut format w out) v .answer)
-    (with-room format w (length out) room ∙ sym (with-room format w (length out′) room′))
-    ∙ go (verdict (readTable format (length out′) w))
+    let v = verdict (readTable format (numbersOf format .m) w) in
+    ap answerOf (decided format w out v (with-room format w (length out) room)) ∙ go v
+    ∙ sym (ap answerOf (decided format w out′ v (with-room format w (length out′) room′)))
   where
     go : (v : Verdict Refusal) → answerBy (λ (r : Refusal). outcome (Refused r) out) (readOut format w out) v .answer
         ≡ answerBy (λ (r : Refusal). outcome (Refused r) out′) (readOut format w out′) v .answer
@@ -132,11 +128,10 @@ answer-as format w out out′ room room′ =
 
 -- ---- what is answered for any window
 
--- every output with room gives the same answer
 pub answer-room : (w out out′ : List ℕ) → numbersOf (formatOf w) .m ≤ length out → numbersOf (formatOf w) .m ≤ length out′
     → readOf w out .answer ≡ readOf w out′ .answer
-unfolding readOf
-answer-room w out out′ = answer-as (formatOf w) w out out′
+answer-room w out out′ room room′ =
+    ap answerOf (any-window w out) ∙ answer-as (formatOf w) w out out′ room room′ ∙ sym (ap answerOf (any-window w out′))
 
 -- what is read
 pub record ReadAccepted (w out : List ℕ) (reading : Reading) : Type 0 where
@@ -150,11 +145,12 @@ pub record ReadAccepted (w out : List ℕ) (reading : Reading) : Type 0 where
   pub turn : reading .turn < numbersOf (reading .format) .n
 
 pub read-accepted : (w out : List ℕ) (reading : Reading) → readOf w out .answer ≡ Read reading → ReadAccepted w out reading
-unfolding readOf readingIn readingOf
+unfolding readingIn readingOf
 read-accepted w out reading e =
     let format = formatOf w in
-    let o = readAs format w out .output in
-    let (h, room, reads, writes) = answered-read format w out reading o (ap (λ (a : ReadAnswer). outcome a o) e) in
+    let o = readOf w out .output in
+    let (h, room, reads, writes) =
+    answered-read format w out reading o (sym (any-window w out) ∙ ap (λ (a : ReadAnswer). outcome a o) e) in
     let below = reads-below format w h in
     subst (ReadAccepted w out) (sym reads)
     (record {

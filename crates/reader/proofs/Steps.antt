@@ -1,34 +1,56 @@
--- What reading a window answers, row by row of its table: refused where the rows before do not apply and this one does, and what is left
--- where they all do not. Assumes nothing.
-use mathlib.Core.Path.{_≡_, ap}
+-- What reading a window answers, by the verdict of its table, and row by row: refused where the rows before do not apply and this one does,
+-- and what is left where none applies. Assumes nothing.
+use mathlib.Core.Path.{_≡_, refl, ap, _∙_}
 use mathlib.Core.Bool.{Bool, true, false}
 use mathlib.Core.List.{List, _++_}
 use Prim.Native.Nat.{ℕ, _≤_, _<_}
 use borrow.Author.Tests.{le-leb, lt-leb, eq-eqb, ne-eqb}
+use lib.Dec.{T}
 use lib.ListN.{length, take, drop}
 use Rattle.bits.specs.Bits.{allBits, same}
 use Rattle.formats.specs.declared.format.Format.{Format}
 use Rattle.formats.specs.Numbers.{numbersOf, windowBits}
 use Rattle.formats.proofs.Fits.{picks, windows-apart}
+use Rattle.refusals.specs.declared.Refusal.{Refusal}
 use Rattle.refusals.specs.declared.Refusal.the-variants.{Length, NotBit, OutputShort, EndsDiffer, NotDivisible, NoTurn, Control, NotWord}
-use Rattle.refusals.specs.Table.{verdict}
+use Rattle.refusals.specs.Refused.{refusalNumber}
+use Rattle.refusals.specs.Table.{Verdict, verdict, answerBy, risesAbove}
 use Rattle.refusals.specs.Outcome.{outcome}
 use Rattle.cyclic.specs.declared.Turn.the-variants.{At, Nothing}
 use Rattle.cyclic.specs.Check.{divisible}
 use Rattle.telegrams.specs.Telegram.{control}
 use Rattle.telegrams.specs.Fields.{controlOf, allWords, userBitsOf}
 use Rattle.reader.specs.declared.ReadAnswer.the-variants.{Read, Refused}
-use Rattle.reader.specs.Reads.{formatOf, endsAgree, turnFound, turnIn, telegramTable, readTable, readingOf, readingIn, userBitsIn, readAs, readOf}
+use Rattle.reader.specs.Reads.{formatOf, endsAgree, turnFound, turnIn, telegramTable, readTable, readingOf, readingIn, userBitsIn, readOut, readAs, readOf}
 use Rattle.reader.specs.AtTurn.{readTelegram, readAtTurn}
+
+-- ---- by the verdict
+
+-- a window that is to be the format's
+pub decided : (format : Format) (w out : List ℕ) (v : Verdict Refusal) → verdict (readTable format (length out) w) ≡ v
+    → readAs format w out ≡ answerBy (λ (r : Refusal). outcome (Refused r) out) (readOut format w out) v
+unfolding readAs
+decided format w out v e = ap (answerBy (λ (r : Refusal). outcome (Refused r) out) (readOut format w out)) e
+
+-- any window is to be that of the format that its length picks
+pub any-window : (w out : List ℕ) → readOf w out ≡ readAs (formatOf w) w out
+unfolding readOf
+any-window w out = refl
+
+-- the numbers of the rows rise
+pub rises : (format : Format) (room : ℕ) (w : List ℕ) → T (risesAbove refusalNumber 0 (readTable format room w))
+unfolding readTable telegramTable risesAbove
+rises format room w = tt
 
 -- the format that the length of a format's window picks
 pub format-of : (format : Format) (w : List ℕ) → length w ≡ windowBits (numbersOf format) → formatOf w ≡ format
 format-of format w size = picks windowBits windows-apart format (length w) size
 
--- a window is read as that format's
+-- such a window is read as that format's
 pub read-as : (format : Format) (w out : List ℕ) → length w ≡ windowBits (numbersOf format) → readOf w out ≡ readAs format w out
-unfolding readOf
-read-as format w out size = ap (λ (f : Format). readAs f w out) (format-of format w size)
+read-as format w out size = any-window w out ∙ ap (λ (f : Format). readAs f w out) (format-of format w size)
+
+-- ---- row by row
 
 -- 1: it has another length
 pub length-refused : (format : Format) (w out : List ℕ) → (length w ≡ windowBits (numbersOf format) → ⊥)

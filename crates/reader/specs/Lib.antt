@@ -3,4 +3,3 @@ pub mod Reads
 pub mod AtTurn
 pub mod CutFrom
 pub mod ReadsExactly
-pub mod AllWords

@@ -10,7 +10,6 @@ use refusals::Refusal;
 mod telegram;
 pub mod tested;
 mod turned;
-mod unshaping;
 
 // What a window tells besides the user bits.
 pub struct Reading {

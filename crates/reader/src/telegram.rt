@@ -1,37 +1,22 @@
 // Reading the telegram that a window has at a turn (document 01, "Search, reading and place").
 ghost use mathlib.Core.Path.{_≡_};
-ghost use mathlib.Core.List.{_++_};
-ghost use Prim.Native.Nat.{_/_, _≤_};
+ghost use Prim.Native.Nat.{_≤_};
 ghost use lib.Dec.{T};
-ghost use lib.ListN.{length, drop};
+ghost use lib.ListN.{length};
 ghost use Rattle.bits.specs.Bits.{allBits};
 ghost use Rattle.formats.specs.Numbers.{numbersOf};
 ghost use Rattle.refusals.specs.Outcome.{outcome};
-ghost use Rattle.scrambling.specs.Scrambling.{descrambled};
-ghost use Rattle.scrambling.specs.Sum.{withoutSum};
 ghost use Rattle.reader.specs.AtTurn.{readTelegram, readAtTurn};
 use crate::ReadAnswer;
 use crate::Reading;
 use crate::turned;
-use crate::unshaping;
-use crate::unshaping::Unshaped;
 use formats::format;
 use formats::format::Format;
 use formats::format::Long;
 use refusals::Refusal;
 use telegrams::fields;
-
-// The user bits, from the scrambled ones and the scrambling bits b, over the front of output.
-fn write_user_bits(b: u16, scrambled: &[u8], output: &mut [u8])
-    requires { ⌜ T (allBits (now scrambled)) ⌝ }
-    requires { ⌜ (10 ≤ length (now scrambled)) × (length (now scrambled) ≤ 1000) ⌝ }
-    requires { ⌜ length (now scrambled) ≤ length (now output) ⌝ }
-    ensures { λ _. ⌜ now (output .exit) ≡ withoutSum (length (now (scrambled .entry)) / 10) (descrambled b (now (scrambled .entry))) ++ drop (length (now (scrambled .entry))) (now (output .entry)) ⌝ }
-{
-    scrambling::descramble(b as u32, scrambled, output);
-    let m = scrambled.len();
-    scrambling::remove_sum(&mut output[..m]);
-}
+use telegrams::undoing;
+use telegrams::undoing::Unshaped;
 
 // Reads the telegram found at the turn t.
 fn read_telegram(
@@ -51,13 +36,13 @@ fn read_telegram(
     }
     let mut unshaped = [0u8; 10 * Long::WORDS];
     let words = format::words(format);
-    let answer = unshaping::unshape(telegram, words, &mut unshaped);
+    let answer = undoing::unshape(telegram, words, &mut unshaped);
     if let Unshaped::NotWord = answer {
         return ReadAnswer::Refused(Refusal::NotWord);
     }
     let b = fields::scrambling_bits(format, telegram);
     let m = format::user_bits(format);
-    write_user_bits(b, &unshaped[..m], output);
+    undoing::write_user_bits(b, &unshaped[..m], output);
     ReadAnswer::Read(Reading {
         format,
         scrambling: b,

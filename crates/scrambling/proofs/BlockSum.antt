@@ -11,6 +11,7 @@ use lib.Seq.{drop-drop}
 use Rattle.bits.specs.Bits.{allBits}
 use Rattle.bits.proofs.AllBits.{allBits-take}
 use Rattle.bits.proofs.Numbers.{numberOf-below}
+use Rattle.bits.proofs.Rest.{count-more, count-done}
 use Rattle.scrambling.specs.Sum.{sumOfBlocks, firstBlock}
 
 -- a block is a number below 1024
@@ -24,14 +25,11 @@ pub sum-more : (k j : ℕ) (u : List ℕ) → j < k
     → sumOfBlocks (k - j) (drop (10 * j) u) ≡ firstBlock (drop (10 * j) u) + sumOfBlocks (k - (j + 1)) (drop (10 * (j + 1)) u)
 unfolding sumOfBlocks
 sum-more k j u h =
-    let left : k - j ≡ suc (k - (j + 1)) = omega arith in
     let next : 10 * j + 10 ≡ 10 * (j + 1) = omega arith in
-    ap (λ (n : ℕ). sumOfBlocks n (drop (10 * j) u)) left
+    ap (λ (n : ℕ). sumOfBlocks n (drop (10 * j) u)) (count-more h)
     ∙ ap (λ (l : List ℕ). firstBlock (drop (10 * j) u) + sumOfBlocks (k - (j + 1)) l) (drop-drop 10 (10 * j) u ∙ ap (λ (n : ℕ). drop n u) next)
 
 -- every block is passed
 pub sum-done : (k j : ℕ) (u : List ℕ) → k ≤ j → sumOfBlocks (k - j) u ≡ 0
 unfolding sumOfBlocks
-sum-done k j u h =
-    let none : k - j ≡ 0 = omega arith in
-    ap (λ (n : ℕ). sumOfBlocks n u) none
+sum-done k j u h = ap (λ (n : ℕ). sumOfBlocks n u) (count-done h)

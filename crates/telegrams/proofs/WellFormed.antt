@@ -1,21 +1,23 @@
 -- A well-formed telegram: its parts by name, that it is the one made from its own fields, and when a made telegram is well-formed.
 -- Assumes nothing.
 use Prim.Native.Nat.{ℕ, _+_, _-_, _*_, _≤_, _<_}
-use mathlib.Core.Path.{_≡_, sym, ap, ap₂, subst, _∙_}
-use mathlib.Core.Bool.{_&&_}
+use mathlib.Core.Path.{_≡_, refl, sym, ap, ap₂, subst, _∙_}
+use mathlib.Core.Bool.{true, _&&_, and-assoc}
 use mathlib.Core.List.{List, _++_}
 use native.Mathlib.Omega.{arith}
 use lib.Dec.{T, eqb, eqb→eq, eqb-refl}
 use lib.ListN.{length, take, drop, length-drop, take-append-drop}
-use lib.Seq.{drop-drop, take-add}
+use lib.Seq.{take-add}
 use Rattle.bits.specs.Bits.{allBits, same}
 use Rattle.bits.proofs.AllBits.{allBits-drop}
 use Rattle.bits.proofs.And.{and-left, and-right, and-of}
+use Rattle.bits.proofs.Groups.{groups-add}
 use Rattle.bits.proofs.Equal.{same-equal, same-of}
-use Rattle.bits.proofs.Parts.{front-below, front-bits}
+use Rattle.bits.proofs.Parts.{drop-from, front-below, front-bits}
 use Rattle.bits.proofs.Tests.{tests-agree}
 use Rattle.formats.specs.Numbers.{Numbers, blocks}
 use Rattle.formats.proofs.Sizes.{Sizes}
+use Rattle.words.specs.Words.{isWord}
 use Rattle.scrambling.specs.Scrambling.{scrambled, descrambled}
 use Rattle.scrambling.proofs.Scrambled.{descrambled-length, descrambled-bits, scrambled-descrambled}
 use Rattle.scrambling.proofs.Summed.{withSum-withoutSum}
@@ -23,7 +25,6 @@ use Rattle.cyclic.specs.Check.{checkBits}
 use Rattle.cyclic.proofs.Laws.{Facts}
 use Rattle.telegrams.specs.Telegram.{shaped, shapedData, control, settings, unchecked, telegramOf}
 use Rattle.telegrams.specs.Fields.{controlOf, scramblingOf, shapingOf, unshaped, userBitsOf, allWords, checked, wellFormed}
-use Rattle.telegrams.proofs.Words.{allWords-add}
 use Rattle.telegrams.proofs.Shaping.{length-unshaped, bits-unshaped, shaped-unshaped}
 use Rattle.telegrams.proofs.Made.{length-made, bits-made, control-made, words-made, checked-made}
 
@@ -81,7 +82,7 @@ pub words-split : (F : Numbers) → Sizes F → (b : List ℕ)
     → allWords (F .words) b ≡ allWords (blocks F) b && allWords 10 (drop (F .n - 110) b)
 words-split F S b =
     let place : 11 * blocks F ≡ F .n - 110 = omega (arith, S .n-is) in
-    ap (λ (k : ℕ). allWords k b) (S .words-are) ∙ allWords-add (blocks F) 10 b
+    ap (λ (k : ℕ). allWords k b) (S .words-are) ∙ groups-add _&&_ true isWord 11 (λ t. refl) and-assoc (blocks F) 10 b
     ∙ ap (λ (i : ℕ). allWords (blocks F) b && allWords 10 (drop i b)) place
 
 -- ---- a well-formed telegram is the one made from its own fields
@@ -109,17 +110,15 @@ module _ (F : Numbers) (S : Sizes F) (b : List ℕ) (h : WellFormed F b) where
   unfolding settings controlOf scramblingOf shapingOf
   own-settings =
       let l = drop (F .n - 110) b in
-      let third : F .n - 110 + 3 ≡ F .n - 107 = omega (arith, S .n-is) in
-      let fifteenth : F .n - 107 + 12 ≡ F .n - 95 = omega (arith, S .n-is) in
-      let l3 : drop 3 l ≡ drop (F .n - 107) b = drop-drop 3 (F .n - 110) b ∙ ap (λ (i : ℕ). drop i b) third in
-      let l15 : drop 12 (drop (F .n - 107) b) ≡ drop (F .n - 95) b = drop-drop 12 (F .n - 107) b ∙ ap (λ (i : ℕ). drop i b) fifteenth in
+      let l3 = drop-from (F .n - 110) 3 (F .n - 107) b (omega (arith, S .n-is)) in
+      let l15 = drop-from (F .n - 107) 12 (F .n - 95) b (omega (arith, S .n-is)) in
       let twelve : 12 ≤ length (drop (F .n - 107) b) = omega (arith, length-drop (F .n - 107) b, h .size, S .n-is) in
       let ten : 10 ≤ length (drop (F .n - 95) b) = omega (arith, length-drop (F .n - 95) b, h .size, S .n-is) in
       ap₂ _++_ (sym (h .control-is))
       (ap₂ _++_ (front-bits 12 (drop (F .n - 107) b) (allBits-drop (F .n - 107) b (h .bits)) twelve)
-      (front-bits 10 (drop (F .n - 95) b) (allBits-drop (F .n - 95) b (h .bits)) ten ∙ ap (take 10) (sym l15))
+      (front-bits 10 (drop (F .n - 95) b) (allBits-drop (F .n - 95) b (h .bits)) ten ∙ ap (take 10) l15)
       ∙ sym (take-add 12 10 (drop (F .n - 107) b))
-      ∙ ap (take 22) (sym l3))
+      ∙ ap (take 22) l3)
       ∙ sym (take-add 3 22 l)
 
   -- what stands before the check bits

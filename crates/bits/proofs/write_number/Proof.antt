@@ -7,6 +7,7 @@ use native.Mathlib.Omega.{arith}
 use lib.ListN.{drop}
 use Rattle.bits.specs.Bits.{bitsOf}
 use Rattle.bits.proofs.Numbers.{bitsOf-zero, bitsOf-suc}
+use Rattle.bits.proofs.Rest.{count-more, count-done}
 use Rattle.bits.proofs.Writer.{Written, written-none, written-more, written-done}
 use Rattle.bits.proofs.write_number.Statement.{statement}
 use Rattle.bits.proofs.write_number.Tie as tie
@@ -48,10 +49,9 @@ loop-again : tie.Need-loop-again Inv-loop μ-loop
 loop-again c =
     let l = c .before in
     let k = l .before .args .k in
-    let x = l .before .args .x in
-    let left : k - l .loop .i ≡ suc (k - (l .loop .i + 1)) = omega arith in (
+    let x = l .before .args .x in (
       omega arith,
-      written-more (l .loop .inv .1) (omega arith) (ap (λ (n : ℕ). bitsOf n x) left ∙ bitsOf-suc (k - (l .loop .i + 1)) x),
+      written-more (l .loop .inv .1) (omega arith) (ap (λ (n : ℕ). bitsOf n x) (count-more (c .loop-test .taken)) ∙ bitsOf-suc (k - (l .loop .i + 1)) x),
     )
 
 same-length : tie.Need-same-length Inv-loop μ-loop
@@ -63,8 +63,7 @@ returns c =
     let k = l .before .args .k in
     let x = l .before .args .x in
     let all : l .loop .i ≡ k = omega arith in
-    let none : k - l .loop .i ≡ 0 = omega arith in
-    written-done (l .loop .inv .1) (ap (λ (n : ℕ). bitsOf n x) none ∙ bitsOf-zero x)
+    written-done (l .loop .inv .1) (ap (λ (n : ℕ). bitsOf n x) (count-done (c .loop-test .left)) ∙ bitsOf-zero x)
     ∙ ap (λ (n : ℕ). bitsOf k x ++ drop n (l .before .args .out .now)) all
 
 pub write-number-spec : {M : Type 1} → statement M

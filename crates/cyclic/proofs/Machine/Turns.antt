@@ -1,22 +1,23 @@
--- The search for the turn: the remainder of each turn from that of the one before, and the search from any turn on. Assumes nothing.
+-- The search for the turn: the remainder of each turn from that of the one before. Assumes nothing.
 use mathlib.Core.Path.{_≡_, refl, sym, ap, ap₂, _∙_, subst₂}
-use mathlib.Core.Bool.{Bool, true, false, cond}
+use mathlib.Core.Bool.{true, false}
 use mathlib.Core.List.{List}
-use Prim.Native.Nat.{ℕ, suc, _+_, _-_, _^_, _<_, _≤_}
+use Prim.Native.Nat.{ℕ, _+_, _^_, _<_, _≤_}
 use native.Mathlib.Nat.{mod-eq-of-lt}
-use native.Mathlib.Numerals.{add-one}
 use native.Mathlib.Omega.{arith}
 use lib.Dec.{lit<}
 use Rattle.bits.specs.Bits.{same, numberFrom, numberOf, bitsOf}
+use Rattle.bits.specs.Search.{firstOf}
 use Rattle.bits.proofs.Equal.{same-equal, equal-same}
+use Rattle.bits.proofs.Left.{Left, left-all, left-fewer, left-found, left-none}
 use Rattle.bits.proofs.Tests.{is-false}
 use Rattle.bits.proofs.Numbers.{numberOf-below, numberOf-bitsOf, bitsOf-numberOf}
 use Rattle.formats.specs.declared.format.Format.{Format}
 use Rattle.formats.specs.declared.format.Format.the-variants.{Long, Short}
-use Rattle.formats.specs.Numbers.{Numbers, numbersOf, fOf, gOf}
+use Rattle.formats.specs.Numbers.{numbersOf, fOf, gOf}
 use Rattle.formats.specs.Polynomial.{polynomial, coefficientsBelow, coefficientOf, sum}
 use Rattle.cyclic.specs.declared.Turn.the-variants.{At, Nothing}
-use Rattle.cyclic.specs.Check.{turnRemainder, turnAmong, turnOf}
+use Rattle.cyclic.specs.Check.{turnRemainder, leaves, turnFrom, turnOf}
 use Rattle.cyclic.specs.Machine.{stepV}
 use Rattle.cyclic.specs.Remainder.{remainder, remainderFrom, step}
 use Rattle.cyclic.proofs.Formats.{factsOf}
@@ -71,52 +72,24 @@ pub record Serves (x : Format) (divisor n first : ℕ) : Type 0 where
 -- The search for the turn with the remainder r has come to turn s, whose remainder is w.
 pub record Turning (x : Format) (r w s : ℕ) : Type 0 where
   pub register : w ≡ numberOf (turnRemainder (numbersOf x) s)
-  pub answer : turnOf (numbersOf x) (bitsOf 10 r) ≡ turnAmong (numbersOf x) (numbersOf x .n - s) s (bitsOf 10 r)
-
--- the search goes on from turn to turn
-among-more : (F : Numbers) (k s : ℕ) (v : List ℕ) → turnAmong F (suc k) s v ≡ cond (same (turnRemainder F s) v) (At s) (turnAmong F k (suc s) v)
-unfolding turnAmong
-among-more F k s v = refl
-
-among-none : (F : Numbers) (s : ℕ) (v : List ℕ) → turnAmong F 0 s v ≡ Nothing
-unfolding turnAmong
-among-none F s v = refl
-
-among-next : (F : Numbers) (n s : ℕ) (v : List ℕ) → s < n
-    → turnAmong F (n - s) s v ≡ cond (same (turnRemainder F s) v) (At s) (turnAmong F (n - (s + 1)) (s + 1) v)
-among-next F n s v h =
-    let e : n - s ≡ suc (n - (s + 1)) = omega arith in
-    ap (λ (k : ℕ). turnAmong F k s v) e ∙ among-more F (n - (s + 1)) s v
-    ∙ ap (λ (j : ℕ). cond (same (turnRemainder F s) v) (At s) (turnAmong F (n - (s + 1)) j v)) (sym (add-one s))
+  pub search : Left (leaves (numbersOf x) (bitsOf 10 r)) (firstOf (leaves (numbersOf x) (bitsOf 10 r)) 0 (numbersOf x .n)) (numbersOf x .n) s
 
 -- The search begins, goes past turn s, ends at it, and ends with none.
 module _ {x : Format} {divisor n first : ℕ} (k : Serves x divisor n first) where
   pub turning-start : (r : ℕ) → Turning x r first 0
-  unfolding turnOf
-  turning-start r =
-      let e : numbersOf x .n ≡ numbersOf x .n - 0 = omega arith in
-      record { register = k .unturned; answer = ap (λ (j : ℕ). turnAmong (numbersOf x) j 0 (bitsOf 10 r)) e }
+  turning-start r = record { register = k .unturned; search = left-all (leaves (numbersOf x) (bitsOf 10 r)) (numbersOf x .n) }
 
   pub turning-more : {r w s w′ : ℕ} → s < n → r < 1024 → (w ≡ r → ⊥) → w′ ≡ stepV divisor 1024 w 0 → Turning x r w s → Turning x r w′ (s + 1)
-  turning-more {r} {w} {s} {w′} h fits other e t =
-      let v = bitsOf 10 r in
-      let rest = turnAmong (numbersOf x) (numbersOf x .n - (s + 1)) (s + 1) v in
-      let within : s < numbersOf x .n = omega (arith, k .telegram) in
+  turning-more {s} h fits other e t =
       record {
         register = e ∙ turn-step x s (t .register) (k .f);
-        answer = t .answer ∙ among-next (numbersOf x) (numbersOf x .n) s v within
-            ∙ ap (λ (b : Bool). cond b (At s) rest) (missed x s (t .register) fits other);
+        search = left-fewer (t .search) (omega (arith, k .telegram)) (missed x s (t .register) fits other);
       }
 
   pub turning-found : {r w s : ℕ} → s < n → w ≡ r → Turning x r w s → At s ≡ turnOf (numbersOf x) (bitsOf 10 r)
-  turning-found {r} {w} {s} h e t =
-      let v = bitsOf 10 r in
-      let rest = turnAmong (numbersOf x) (numbersOf x .n - (s + 1)) (s + 1) v in
-      let within : s < numbersOf x .n = omega (arith, k .telegram) in
-      sym (t .answer ∙ among-next (numbersOf x) (numbersOf x .n) s v within
-      ∙ ap (λ (b : Bool). cond b (At s) rest) (hit x s (t .register) e))
+  unfolding turnOf
+  turning-found {s} h e t = sym (ap turnFrom (left-found (t .search) (omega (arith, k .telegram)) (hit x s (t .register) e)))
 
   pub turning-over : {r w s : ℕ} → n ≤ s → Turning x r w s → Nothing ≡ turnOf (numbersOf x) (bitsOf 10 r)
-  turning-over {r} {s} h t =
-      let e : numbersOf x .n - s ≡ 0 = omega (arith, k .telegram) in
-      sym (t .answer ∙ ap (λ (j : ℕ). turnAmong (numbersOf x) j s (bitsOf 10 r)) e ∙ among-none (numbersOf x) s (bitsOf 10 r))
+  unfolding turnOf
+  turning-over h t = sym (ap turnFrom (left-none (t .search) (omega (arith, k .telegram))))

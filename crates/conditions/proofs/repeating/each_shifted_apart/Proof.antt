@@ -1,21 +1,30 @@
 -- `conditions::repeating::each_shifted_apart` meets its contract. The loop's invariant: the words before j have passed. Assumes nothing.
 use mathlib.Core.Path.{sym, _∙_}
-use Prim.Native.Nat.{_-_}
+use mathlib.Core.Bool.{Bool}
+use mathlib.Core.List.{List}
+use Prim.Native.Nat.{ℕ, _-_, _*_}
 use native.Mathlib.Omega.{arith}
 use borrow.Author.Tests.{not-true, not-false}
-use Rattle.conditions.specs.Conditions.{each, shiftedApart}
+use Rattle.conditions.specs.Conditions.{fromTo, shiftedApart}
 use Rattle.conditions.proofs.Each.{Passed, passed-none, passed-more, passed-fails, passed-done}
 use Rattle.conditions.proofs.repeating.each_shifted_apart.Statement.{statement}
 use Rattle.conditions.proofs.repeating.each_shifted_apart.Tie as tie
 
+-- the test at word j
+abbrev test : List ℕ → ℕ → Bool
+test b j = shiftedApart b (11 * j)
+
 abbrev Inv-loop : tie.InvT-loop
-Inv-loop b j₀ j = Passed (shiftedApart b) (each (shiftedApart b) 0 93) j 93
+Inv-loop b j₀ j = Passed (test b) (fromTo 0 92 (test b)) j 93
 
 abbrev μ-loop : tie.MeasureT-loop
 μ-loop b j₀ j = 93 - j
 
 loop-holds : tie.Need-loop-holds Inv-loop μ-loop
-loop-holds c = passed-none (shiftedApart (c .before .args .b .now)) 0 93
+loop-holds c = passed-none (test (c .before .args .b .now)) 0 93
+
+mul-shifted-apart : tie.Need-mul-shifted-apart Inv-loop μ-loop
+mul-shifted-apart c = omega arith
 
 shifted-apart-requires : tie.Need-shifted-apart-requires Inv-loop μ-loop
 shifted-apart-requires c κs = omega arith
@@ -40,4 +49,4 @@ returns-2 c = passed-done (c .before .loop .inv) (omega arith)
 pub each-shifted-apart-spec : {M : Type 1} → statement M
 each-shifted-apart-spec =
     tie.close
-    (tie.spec Inv-loop μ-loop loop-holds shifted-apart-requires returns add-j loop-less loop-again returns-2)
+    (tie.spec Inv-loop μ-loop loop-holds mul-shifted-apart shifted-apart-requires returns add-j loop-less loop-again returns-2)

@@ -7,7 +7,7 @@ use borrow.Author.Needs.{needs}
 use lib.ListN.{length, take}
 use lib.Pow.{pow-mono}
 use lib.Seq.{take-at}
-use Rattle.conditions.specs.Conditions.{each, thinnedBelow, thinned, thinnedAt, thinnedBy}
+use Rattle.conditions.specs.Conditions.{fromTo, thinnedBelow, thinned, thinnedAt, thinnedBy}
 use Rattle.conditions.proofs.Sizes.{sizes}
 use Rattle.conditions.proofs.ThinnedRing.{length-thinnedBelow, length-thinned, allBits-thinned}
 use Rattle.conditions.proofs.thinned.thinned_by.Statement.{statement}
@@ -63,7 +63,7 @@ returns : tie.Need-returns
 unfolding thinnedBy
 returns c =
     let s = c .before .before .before .before .before .before in
-    c .within-round .ensures ∙ ap (λ (v : List ℕ). each (thinnedAt (s .args .format) v) 0 11) (written (c .before .before .before))
+    c .within-round .ensures ∙ ap (λ (v : List ℕ). fromTo 0 10 (thinnedAt (s .args .format) v)) (written (c .before .before .before))
 
 pub thinned-by-spec : {M : Type 1} → statement M
 thinned-by-spec =

@@ -10,7 +10,7 @@ use lib.Dec.{leb}
 use Rattle.formats.specs.declared.format.Format.{Format}
 use Rattle.formats.specs.Numbers.{numbersOf}
 use Rattle.conditions.specs.Runs.{validWords, longestRound}
-use Rattle.conditions.specs.Conditions.{each, thinnedAt}
+use Rattle.conditions.specs.Conditions.{fromTo, thinnedAt}
 use Rattle.conditions.proofs.Each.{each-same, Passed, passed-none, passed-more, passed-fails, passed-done}
 use Rattle.conditions.proofs.Sizes.{words-fill, sizes}
 use Rattle.conditions.proofs.thinned.within_round.Statement.{statement}
@@ -21,14 +21,14 @@ abbrev test : List ℕ → ℕ → ℕ → Bool
 test v words a = leb (longestRound (validWords words a v)) 30
 
 abbrev Inv-loop : tie.InvT-loop
-Inv-loop v words a₀ a = Passed (test v words) (each (test v words) 0 11) a 11
+Inv-loop v words a₀ a = Passed (test v words) (fromTo 0 10 (test v words)) a 11
 
 abbrev μ-loop : tie.MeasureT-loop
 μ-loop v words a₀ a = 11 - a
 
 -- the test is that of the definition
 tested : (format : Format) (v : List ℕ) (words : ℕ) → words ≡ numbersOf format .words
-    → each (thinnedAt format v) 0 11 ≡ each (test v words) 0 11
+    → fromTo 0 10 (thinnedAt format v) ≡ fromTo 0 10 (test v words)
 unfolding thinnedAt
 tested format v words e =
     each-same (thinnedAt format v) (test v words) 0 11 λ a. ap (λ (k : ℕ). test v k a) (sym e)
@@ -56,8 +56,8 @@ module _ (c : tie.After-longest-round Inv-loop μ-loop) where
 
 -- so the answer is that of the definition
 round : (w : tie.After-words Inv-loop μ-loop)
-    → each (thinnedAt (w .before .before .args .format) (w .before .before .args .v .now)) 0 11
-    ≡ each (test (w .before .before .args .v .now) (w .words .result)) 0 11
+    → fromTo 0 10 (thinnedAt (w .before .before .args .format) (w .before .before .args .v .now))
+    ≡ fromTo 0 10 (test (w .before .before .args .v .now) (w .words .result))
 round w =
     let a = w .before .before .args in
     tested (a .format) (a .v .now) (w .words .result) (w .words .ensures)

@@ -1,6 +1,6 @@
 -- `reader::telegram::read_telegram` meets its contract: the answer at each test, and the user bits where all are passed. Assumes nothing.
-use mathlib.Core.Path.{_≡_, sym, ap, ap₂, _∙_}
-use mathlib.Core.Bool.{true}
+use mathlib.Core.Path.{_≡_, refl, sym, ap, ap₂, _∙_}
+use mathlib.Core.Bool.{Bool, true, false}
 use mathlib.Core.List.{List, _++_}
 use Prim.Native.Nat.{ℕ, _*_}
 use native.Mathlib.Omega.{arith}
@@ -9,21 +9,31 @@ use borrow.Author.Tests.{not-true, not-false}
 use lib.ListN.{drop, replicate}
 use lib.Seq.{length-take-le}
 use Rattle.bits.specs.Bits.{same}
-use Rattle.bits.proofs.Tests.{holds}
+use Rattle.bits.proofs.Tests.{holds, clash}
 use Rattle.formats.specs.Numbers.{numbersOf, blocks}
 use Rattle.refusals.specs.Outcome.{outcome}
 use Rattle.formats.proofs.Sizes.{sizesOf}
+use Rattle.telegrams.specs.declared.undoing.Unshaped.the-variants.{Whole, NotWord}
 use Rattle.telegrams.specs.Telegram.{control}
 use Rattle.telegrams.specs.Fields.{controlOf, allWords, unshaped}
+use Rattle.telegrams.specs.Unshaped.{wholeIf}
 use Rattle.telegrams.proofs.Shaping.{length-unshaped, bits-unshaped}
 use Rattle.telegrams.proofs.Buffers.Completed.{block-fits}
+use Rattle.telegrams.proofs.Buffers.UserBits.{data-blocks, user-bits}
 use Rattle.reader.specs.declared.ReadAnswer.the-variants.{Read}
 use Rattle.reader.specs.Reads.{readingOf}
 use Rattle.reader.proofs.Steps.{control-refused, word-refused, telegram-read}
-use Rattle.reader.proofs.Parts.Answers.{other-word, whole-words}
-use Rattle.reader.proofs.Parts.UserBits.{data-blocks, user-bits}
 use Rattle.reader.proofs.telegram.read_telegram.Statement.{statement}
 use Rattle.reader.proofs.telegram.read_telegram.Tie as tie
+
+-- what the answer of unshaping tells
+other-word : (x : Bool) → NotWord ≡ wholeIf x → x ≡ false
+other-word true e = clash cc
+other-word false e = refl
+
+whole-words : (x : Bool) → Whole ≡ wholeIf x → x ≡ true
+whole-words true e = refl
+whole-words false e = clash cc
 
 -- the array that the blocks go into
 abbrev zeros : List ℕ
