@@ -15,7 +15,7 @@ use Rattle.bits.proofs.First.{NonePasses, found-first, missing-first}
 use Rattle.bits.proofs.Tests.{holds, is-true, is-false}
 use Rattle.formats.specs.declared.format.Format.{Format}
 use Rattle.formats.specs.declared.format.Format.the-variants.{Long, Short}
-use Rattle.formats.specs.Numbers.{short, numbersOf, windowBits}
+use Rattle.formats.specs.Numbers.{long, short, numbersOf, windowBits}
 use Rattle.reader.proofs.Laws.{reads-size}
 use Rattle.captures.specs.Captures.{windowAt, acceptsAs, acceptsAt, firstPlace, formatAt}
 
@@ -23,6 +23,11 @@ use Rattle.captures.specs.Captures.{windowAt, acceptsAs, acceptsAt, firs
 pub window-least : (format : Format) → windowBits short ≤ windowBits (numbersOf format)
 window-least Long = lit≤ tt
 window-least Short = lit≤ tt
+
+-- no block is longer than a long one
+pub block-most : (format : Format) → numbersOf format .m ≤ long .m
+block-most Long = lit≤ tt
+block-most Short = lit≤ tt
 
 -- ---- a format's window at a place
 

@@ -37,6 +37,10 @@ module _ (format : Format) (w : List ℕ) where
   ends-unread e =
       is-false (readsAs format w) (λ h. let ends = reads-passed format w .0 h .ends in fails (endsAgree (numbersOf format) w) e (holds (endsAgree (numbersOf format) w) ends))
 
+  pub reading-format : readingIn format w .format ≡ format
+  unfolding readingIn readingOf
+  reading-format = refl
+
   -- the numbers of what is read fit their fields
   pub reads-below : T (readsAs format w) → (readingIn format w .scrambling < 4096) × (readingIn format w .turn < numbersOf format .n)
   unfolding readingIn readingOf

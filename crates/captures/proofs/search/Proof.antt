@@ -15,7 +15,7 @@ search-read-requires : tie.Need-search-read-requires
 search-read-requires c κs = search needs
 
 returns : tie.Need-returns
-returns c = ?
+returns c = sym (ap (λ (x : Outcome Capture). x .answer) (c .before .search-read .ensures)) ∙ same-answer _ _ (lit≤ tt)
 
 pub search-spec : {M : Type 1} → statement M
 search-spec = tie.close (tie.spec slice-aggregate-search-read search-read-requires returns)

@@ -121,7 +121,7 @@ loop-again c =
     let a = start l .args in
     let o = call .attempt2 .last .1 .1 .1 .0 in
     let (passed, same) = pass (a .capture .now) (a .output .now) (l .loop .place) (l .loop .inv .2) (first call .attempt .last .1 .1 .1 .0) (no-long call) o
-        (call .attempt2 .ensures ∙ ap (λ (x : Tried). outcome x o) (c .enum-told2 .given .1)) in
+    (call .attempt2 .ensures ∙ ap (λ (x : Tried). outcome x o) (c .enum-told2 .given .1)) in
     (omega arith, same, passed)
 
 same-length-3 : tie.Need-same-length-3 Inv-loop μ-loop
