@@ -4,6 +4,7 @@ pub mod Differences
 pub mod Equal
 pub mod First
 pub mod Flipped
+pub mod Groups
 pub mod Left
 pub mod Mask
 pub mod Numbers

@@ -1,3 +1,4 @@
 pub mod Bits
 pub mod Differences
 pub mod Search
+pub mod Groups

@@ -4,7 +4,7 @@ use Prim.Native.Nat.{ℕ, zero, suc, _+_, max}
 use mathlib.Core.Bool.{Bool, true, false}
 use mathlib.Core.List.{List, [], _∷_, _++_}
 use Rattle.bits.specs.Bits.{around}
-use Rattle.telegrams.specs.Fields.{isWord}
+use Rattle.words.specs.Words.{isWord}
 
 -- of k words from place p on, round the ring of b, which are valid
 unfoldable pub validWords : ℕ → ℕ → List ℕ → List Bool

@@ -4,7 +4,7 @@ ghost use Prim.Native.Nat.{_+_, _%_, _≤_, _<_};
 ghost use lib.Dec.{T};
 ghost use lib.ListN.{length};
 ghost use Rattle.bits.specs.Bits.{allBits, numberOf, around};
-ghost use Rattle.telegrams.specs.Fields.{isWord};
+ghost use Rattle.words.specs.Words.{isWord};
 
 // The place k after p on a ring of n.
 pub fn place_after(p: usize, k: usize, n: usize) -> usize

@@ -12,7 +12,6 @@ use formats::refusal::Refusal;
 mod telegram;
 pub mod tested;
 mod turned;
-mod unshaping;
 
 // What a window tells besides the user bits.
 pub struct Reading {

@@ -22,18 +22,6 @@ use formats::format::Long;
 use formats::refusal::Refusal;
 use telegrams::fields;
 
-// The user bits, from the scrambled ones and the scrambling bits b, over the front of output.
-fn write_user_bits(b: u16, scrambled: &[u8], output: &mut [u8])
-    requires { ⌜ T (allBits (now scrambled)) ⌝ }
-    requires { ⌜ (10 ≤ length (now scrambled)) × (length (now scrambled) ≤ 1000) ⌝ }
-    requires { ⌜ length (now scrambled) ≤ length (now output) ⌝ }
-    ensures { λ _. ⌜ now (output .exit) ≡ withoutSum (length (now (scrambled .entry)) / 10) (descrambled b (now (scrambled .entry))) ++ drop (length (now (scrambled .entry))) (now (output .entry)) ⌝ }
-{
-    scrambling::descramble(b as u32, scrambled, output);
-    let m = scrambled.len();
-    scrambling::remove_sum(&mut output[..m]);
-}
-
 // Reads the telegram found at the turn t.
 fn read_telegram(
     format: Format,

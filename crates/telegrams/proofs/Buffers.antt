@@ -1,5 +1,5 @@
--- `Fronts` has a buffer that is written from the front part by part, `Blocks` the words of some blocks and of some more, `Completed` the
--- telegram that stands in the buffer at the end.
+-- `Fronts` has a buffer that is written from the front part by part, `Completed` the telegram that stands in the buffer at the end, `UserBits`
+-- the user bits that are written from its words.
 pub mod Fronts
-pub mod Blocks
 pub mod Completed
+pub mod UserBits

@@ -1,6 +1,5 @@
--- `Words` and `Shaping` have the words and their blocks, `Made` the telegram made from its fields, `WellFormed` the telegram that
+-- `Shaping` has the words and their blocks, `Made` the telegram made from its fields, `WellFormed` the telegram that
 -- is well-formed, `Checked` the check bits, `Buffers` what stands in a buffer while a telegram is made.
-pub mod Words
 pub mod Shaping
 pub mod Made
 pub mod Checked

@@ -1,8 +1,8 @@
 -- A well-formed telegram: its parts by name, that it is the one made from its own fields, and when a made telegram is well-formed.
 -- Assumes nothing.
 use Prim.Native.Nat.{ℕ, _+_, _-_, _*_, _≤_, _<_}
-use mathlib.Core.Path.{_≡_, sym, ap, ap₂, subst, _∙_}
-use mathlib.Core.Bool.{_&&_}
+use mathlib.Core.Path.{_≡_, refl, sym, ap, ap₂, subst, _∙_}
+use mathlib.Core.Bool.{true, _&&_, and-assoc}
 use mathlib.Core.List.{List, _++_}
 use native.Mathlib.Omega.{arith}
 use lib.Dec.{T, eqb, eqb→eq, eqb-refl}
@@ -11,11 +11,13 @@ use lib.Seq.{drop-drop, take-add}
 use Rattle.bits.specs.Bits.{allBits, same}
 use Rattle.bits.proofs.AllBits.{allBits-drop}
 use Rattle.bits.proofs.And.{and-left, and-right, and-of}
+use Rattle.bits.proofs.Groups.{groups-add}
 use Rattle.bits.proofs.Equal.{same-equal, same-of}
 use Rattle.bits.proofs.Parts.{front-below, front-bits}
 use Rattle.bits.proofs.Tests.{tests-agree}
 use Rattle.formats.specs.Numbers.{Numbers, blocks}
 use Rattle.formats.proofs.Sizes.{Sizes}
+use Rattle.words.specs.Words.{isWord}
 use Rattle.scrambling.specs.Scrambling.{scrambled, descrambled}
 use Rattle.scrambling.proofs.Scrambled.{descrambled-length, descrambled-bits, scrambled-descrambled}
 use Rattle.scrambling.proofs.Summed.{withSum-withoutSum}
@@ -23,7 +25,6 @@ use Rattle.cyclic.specs.Check.{checkBits}
 use Rattle.cyclic.proofs.Laws.{Facts}
 use Rattle.telegrams.specs.Telegram.{shaped, shapedData, control, settings, unchecked, telegramOf}
 use Rattle.telegrams.specs.Fields.{controlOf, scramblingOf, shapingOf, unshaped, userBitsOf, allWords, checked, wellFormed}
-use Rattle.telegrams.proofs.Words.{allWords-add}
 use Rattle.telegrams.proofs.Shaping.{length-unshaped, bits-unshaped, shaped-unshaped}
 use Rattle.telegrams.proofs.Made.{length-made, bits-made, control-made, words-made, checked-made}
 
@@ -81,7 +82,7 @@ pub words-split : (F : Numbers) → Sizes F → (b : List ℕ)
     → allWords (F .words) b ≡ allWords (blocks F) b && allWords 10 (drop (F .n - 110) b)
 words-split F S b =
     let place : 11 * blocks F ≡ F .n - 110 = omega (arith, S .n-is) in
-    ap (λ (k : ℕ). allWords k b) (S .words-are) ∙ allWords-add (blocks F) 10 b
+    ap (λ (k : ℕ). allWords k b) (S .words-are) ∙ groups-add _&&_ true isWord 11 (λ t. refl) and-assoc (blocks F) 10 b
     ∙ ap (λ (i : ℕ). allWords (blocks F) b && allWords 10 (drop i b)) place
 
 -- ---- a well-formed telegram is the one made from its own fields

@@ -1,16 +1,15 @@
 -- The fields of a telegram, and when it is well-formed (document 01, "The telegram, left to right").
 -- b is b(n-1) to b0, so b(i) stands at place n-1-i of the list.
 -- Assumes nothing.
-use Prim.Native.Nat.{ℕ, zero, suc, _-_}
-use mathlib.Core.Bool.{Bool, true, false, _&&_}
-use mathlib.Core.List.{List, [], _++_}
+use Prim.Native.Nat.{ℕ, _-_}
+use mathlib.Core.Bool.{Bool, _&&_}
+use mathlib.Core.List.{List}
 use lib.Dec.{eqb}
 use lib.ListN.{length, take, drop}
 use Rattle.bits.specs.Bits.{allBits, same, numberOf, bitsOf}
+use Rattle.bits.specs.Groups.{eachGroup, everyGroup}
 use Rattle.formats.specs.Numbers.{Numbers, blocks}
-use Rattle.words.specs.declared.Lookup.{Lookup}
-use Rattle.words.specs.declared.Lookup.the-variants.{Number, NotInTable}
-use Rattle.words.specs.Words.{lookupOf, inTable}
+use Rattle.words.specs.Words.{lookupOf, isWord, numberIn}
 use Rattle.scrambling.specs.Scrambling.{descrambled}
 use Rattle.scrambling.specs.Sum.{withoutSum}
 use Rattle.cyclic.specs.Check.{checkBits}
@@ -28,28 +27,21 @@ scramblingOf F b = numberOf (take 12 (drop (F .n - 107) b))
 unfoldable pub shapingOf : Numbers → List ℕ → ℕ
 shapingOf F b = numberOf (take 10 (drop (F .n - 95) b))
 
--- the number of a word that the table has, else 0
-abbrev pub numberIn : Lookup → ℕ
-numberIn (Number i) = i
-numberIn NotInTable = 0
+-- the eleven bits of a word become the ten bits of its number
+abbrev pub blockOfWord : List ℕ → List ℕ
+blockOfWord word = bitsOf 10 (numberIn (lookupOf (numberOf word)))
 
--- the ten bits of the number of each of the next k words
-unfoldable pub unshaped : ℕ → List ℕ → List ℕ
-unshaped zero b = []
-unshaped (suc k) b = bitsOf 10 (numberIn (lookupOf (numberOf (take 11 b)))) ++ unshaped k (drop 11 b)
+-- each of the next k words of eleven bits becomes its block
+abbrev pub unshaped : ℕ → List ℕ → List ℕ
+unshaped = eachGroup blockOfWord 11
 
 -- the user bits
 unfoldable pub userBitsOf : Numbers → List ℕ → List ℕ
 userBitsOf F b = withoutSum (blocks F) (descrambled (scramblingOf F b) (unshaped (blocks F) b))
 
--- the eleven bits are a word of the table
-unfoldable pub isWord : List ℕ → Bool
-isWord w = inTable (numberOf w)
-
 -- the next k words are all in the table
-unfoldable pub allWords : ℕ → List ℕ → Bool
-allWords zero b = true
-allWords (suc k) b = isWord (take 11 b) && allWords k (drop 11 b)
+abbrev pub allWords : ℕ → List ℕ → Bool
+allWords = everyGroup isWord 11
 
 -- b84 to b0 are the check bits of what stands before them
 unfoldable pub checked : Numbers → List ℕ → Bool

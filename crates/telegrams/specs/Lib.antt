@@ -1,2 +1,3 @@
 pub mod Telegram
 pub mod Fields
+pub mod Unshaped

@@ -1,20 +1,23 @@
 -- The telegram made from a block of user bits, the scrambling bits' number B and the extra shaping bits' number
 -- (document 01, "The telegram, left to right").
 -- Assumes nothing.
-use Prim.Native.Nat.{ℕ, zero, suc}
+use Prim.Native.Nat.{ℕ}
 use mathlib.Core.List.{List, [], _∷_, _++_}
-use lib.ListN.{take, drop}
 use Rattle.bits.specs.Bits.{numberOf, bitsOf}
+use Rattle.bits.specs.Groups.{eachGroup}
 use Rattle.formats.specs.Numbers.{Numbers, blocks}
 use Rattle.words.specs.Words.{wordOf}
 use Rattle.scrambling.specs.Scrambling.{scrambled}
 use Rattle.scrambling.specs.Sum.{withSum}
 use Rattle.cyclic.specs.Check.{checkBits}
 
--- each of the next k blocks of ten bits, as a number i, becomes entry i of the table
-unfoldable pub shaped : ℕ → List ℕ → List ℕ
-shaped zero v = []
-shaped (suc k) v = bitsOf 11 (wordOf (numberOf (take 10 v))) ++ shaped k (drop 10 v)
+-- the ten bits of a block, as a number i, become entry i of the table
+abbrev pub wordOfBlock : List ℕ → List ℕ
+wordOfBlock block = bitsOf 11 (wordOf (numberOf block))
+
+-- each of the next k blocks of ten bits becomes its word
+abbrev pub shaped : ℕ → List ℕ → List ℕ
+shaped = eachGroup wordOfBlock 10
 
 -- b(n-1) to b110: the shaped data
 unfoldable pub shapedData : Numbers → List ℕ → ℕ → List ℕ

@@ -5,3 +5,4 @@ pub mod Numbers
 pub mod InverseTable
 pub mod Groups
 pub mod Ranks
+pub mod WordBits

@@ -5,6 +5,7 @@ use mathlib.Core.Bool.{Bool, true, false, cond, _&&_, _||_}
 use mathlib.Core.List.{List, [], _∷_}
 use lib.Dec.{eqb, ltb}
 use lib.ListN.{getD}
+use Rattle.bits.specs.Bits.{numberOf}
 use Rattle.words.specs.declared.Lookup.{Lookup}
 use Rattle.words.specs.declared.Lookup.the-variants.{Number, NotInTable}
 use Rattle.words.specs.Table.{table}
@@ -29,6 +30,15 @@ isNumber NotInTable = false
 
 abbrev pub inTable : ℕ → Bool
 inTable w = isNumber (lookupOf w)
+
+-- the eleven bits are a word of the table
+unfoldable pub isWord : List ℕ → Bool
+isWord w = inTable (numberOf w)
+
+-- the number of a word that the table has, else 0
+abbrev pub numberIn : Lookup → ℕ
+numberIn (Number i) = i
+numberIn NotInTable = 0
 
 -- an eleven-bit word begins, or ends, with these five bits
 abbrev pub beginsWith : ℕ → ℕ → Bool

@@ -1,8 +1,7 @@
 -- `conditions::ring::is_word_at` meets its contract. Assumes nothing.
 use mathlib.Core.Path.{ap, _∙_}
 use borrow.Author.Needs.{needs}
-use Rattle.words.specs.Words.{inTable}
-use Rattle.telegrams.specs.Fields.{isWord}
+use Rattle.words.specs.Words.{inTable, isWord}
 use Rattle.conditions.proofs.ring.is_word_at.Statement.{statement}
 use Rattle.conditions.proofs.ring.is_word_at.Tie as tie
 

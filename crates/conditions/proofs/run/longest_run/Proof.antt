@@ -11,7 +11,7 @@ use native.Mathlib.Omega.{arith}
 use borrow.Author.Needs.{needs}
 use lib.ListN.{length}
 use Rattle.bits.specs.Bits.{around}
-use Rattle.telegrams.specs.Fields.{isWord}
+use Rattle.words.specs.Words.{isWord}
 use Rattle.conditions.specs.Runs.{validWords, longest, longestAfter}
 use Rattle.conditions.proofs.Round.{validWords-more, validWords-done}
 use Rattle.conditions.proofs.run.longest_run.Statement.{statement}

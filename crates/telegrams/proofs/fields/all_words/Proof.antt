@@ -1,17 +1,17 @@
 -- `telegrams::fields::all_words` meets its contract. The loop's invariant: the test of all words is that of the words not yet passed.
 -- Assumes nothing.
 use mathlib.Core.Path.{_≡_, sym, ap, _∙_}
-use mathlib.Core.Bool.{Bool, _&&_}
+use mathlib.Core.Bool.{Bool, true, _&&_}
 use Prim.Native.Nat.{ℕ, _+_, _*_, _-_, _≤_}
 use native.Mathlib.Omega.{arith}
 use borrow.Author.Needs.{needs}
 use borrow.Author.Tests.{not-true, not-false}
-use lib.ListN.{take, drop}
+use lib.ListN.{drop}
 use Rattle.bits.proofs.AllBits.{allBits-drop}
+use Rattle.bits.proofs.Groups.{groups-next, groups-done}
 use Rattle.bits.proofs.Parts.{front-below}
-use Rattle.words.specs.Words.{inTable}
-use Rattle.telegrams.specs.Fields.{isWord, allWords}
-use Rattle.telegrams.proofs.Buffers.Blocks.{words-more, words-done}
+use Rattle.words.specs.Words.{inTable, isWord}
+use Rattle.telegrams.specs.Fields.{allWords}
 use Rattle.telegrams.proofs.fields.all_words.Statement.{statement}
 use Rattle.telegrams.proofs.fields.all_words.Tie as tie
 
@@ -52,7 +52,7 @@ next c t e =
     let a = l .before .before .args in
     let j = l .loop .j in
     let others = allWords (a .k - (j + 1)) (drop (11 * (j + 1)) (a .s .now)) in
-    l .loop .inv .1 ∙ words-more (a .k) j (a .s .now) (omega arith)
+    l .loop .inv .1 ∙ groups-next _&&_ true isWord 11 (a .k) j (a .s .now) (omega arith)
     ∙ ap (λ (w : Bool). w && others) (sym (c .in-table .ensures ∙ ap inTable (c .before .number .ensures)) ∙ e)
 
 returns : tie.Need-returns Inv-loop μ-loop
@@ -71,7 +71,7 @@ returns-2 : tie.Need-returns-2 Inv-loop μ-loop
 returns-2 c =
     let l = c .before in
     let a = l .before .before .args in
-    sym (l .loop .inv .1 ∙ words-done (a .k) (l .loop .j) (drop (11 * l .loop .j) (a .s .now)) (omega arith))
+    sym (l .loop .inv .1 ∙ groups-done _&&_ true isWord 11 (a .k) (l .loop .j) (drop (11 * l .loop .j) (a .s .now)) (omega arith))
 
 pub all-words-spec : {M : Type 1} → statement M
 all-words-spec =

@@ -1,19 +1,19 @@
 -- `telegrams::making::shape` meets its contract. The loop's invariant: the words of the first j blocks stand in front, and the rest is as it
 -- was. Assumes nothing.
-use mathlib.Core.Path.{_≡_, refl, sym, ap, ap₂, _∙_}
-use mathlib.Core.List.{List, _++_}
+use mathlib.Core.Path.{_≡_, refl, ap, _∙_}
+use mathlib.Core.List.{_++_}
 use Prim.Native.Nat.{ℕ, _+_, _*_, _-_, _≤_, _<_}
 use native.Mathlib.Omega.{arith}
 use borrow.Author.Needs.{needs}
 use lib.ListN.{length, take, drop, length-drop}
 use Rattle.bits.specs.Bits.{numberOf, bitsOf}
+use Rattle.bits.specs.Groups.{overGroups}
 use Rattle.bits.proofs.AllBits.{allBits-drop}
 use Rattle.bits.proofs.Parts.{front-below}
 use Rattle.words.specs.Words.{wordOf}
-use Rattle.telegrams.specs.Telegram.{shaped}
-use Rattle.telegrams.proofs.Shaping.{length-shaped}
-use Rattle.telegrams.proofs.Buffers.Blocks.{shaped-more}
-use Rattle.telegrams.proofs.Buffers.Fronts.{lent-is, front-more}
+use Rattle.telegrams.specs.Telegram.{wordOfBlock, shaped}
+use Rattle.telegrams.proofs.Shaping.{length-word}
+use Rattle.telegrams.proofs.Buffers.Fronts.{lent-is, group-more}
 use Rattle.telegrams.proofs.making.shape.Statement.{statement}
 use Rattle.telegrams.proofs.making.shape.Tie as tie
 
@@ -24,7 +24,7 @@ abbrev μ-loop : tie.MeasureT-loop
 μ-loop scrambled k out₀ j₀ out j = k - j
 
 loop-holds : tie.Need-loop-holds Inv-loop μ-loop
-unfolding shaped
+unfolding overGroups
 loop-holds c = (omega arith, refl, refl)
 
 mul-number : tie.Need-mul-number Inv-loop μ-loop
@@ -81,13 +81,11 @@ loop-again c =
     let called = c .before .before in
     let word = called .before .before in
     let w = word .word .result in
-    let entry : w ≡ wordOf (numberOf (take 10 (drop (10 * j) v))) = word .word .ensures ∙ ap wordOf (word .before .number .ensures) in
-    let place : 11 * j + 11 ≡ 11 * (j + 1) = omega arith in (
+    let entry : w ≡ wordOf (numberOf (take 10 (drop (10 * j) v))) = word .word .ensures ∙ ap wordOf (word .before .number .ensures) in (
       omega arith,
       omega arith,
-      front-more (shaped j v) (bitsOf 11 w) old (l .loop .out) (called .write-number .last .0) (11 * j) 11 (length-shaped j v) (l .loop .inv .2)
-          (called .write-number .ensures)
-          ∙ ap₂ (λ (front : List ℕ) (i : ℕ). front ++ drop i old) (ap (λ (x : ℕ). shaped j v ++ bitsOf 11 x) entry ∙ sym (shaped-more j v)) place,
+      group-more wordOfBlock 10 11 length-word j v old (l .loop .out) (called .write-number .last .0) (bitsOf 11 w) (l .loop .inv .2)
+          (ap (bitsOf 11) entry) (called .write-number .ensures),
     )
 
 same-length : tie.Need-same-length Inv-loop μ-loop

@@ -1,18 +1,18 @@
 -- `telegrams::making::write_shaped_data` meets its contract, by those of `scramble` and `shape`: what stands after the scrambled bits does
 -- not count. Assumes nothing.
 use mathlib.Core.Path.{ap, _∙_}
-use mathlib.Core.List.{List, _++_}
+use mathlib.Core.List.{List, [], _++_}
 use Prim.Native.Nat.{ℕ, _*_, _/_, _≤_}
 use native.Mathlib.Omega.{arith}
 use borrow.Author.Needs.{needs}
 use lib.ListN.{length, drop, replicate}
 use Rattle.bits.proofs.AllBits.{allBits-append, allBits-drop}
+use Rattle.bits.proofs.Groups.{groups-front}
 use Rattle.formats.proofs.Sizes.{sizesOf}
 use Rattle.scrambling.specs.Scrambling.{scrambled}
 use Rattle.scrambling.proofs.Scrambled.{scrambled-length, scrambled-bits}
 use Rattle.cyclic.proofs.Lists.{bits-zeros}
-use Rattle.telegrams.specs.Telegram.{shaped}
-use Rattle.telegrams.proofs.Buffers.Blocks.{shaped-front}
+use Rattle.telegrams.specs.Telegram.{wordOfBlock, shaped}
 use Rattle.telegrams.proofs.Buffers.Completed.{block-fits}
 use Rattle.telegrams.proofs.making.write_shaped_data.Statement.{statement}
 use Rattle.telegrams.proofs.making.write_shaped_data.Tie as tie
@@ -57,7 +57,7 @@ returns c =
     let rest = drop (length (a .summed .now)) zeros in
     let within : 10 * k ≤ length s = omega (arith, scrambled-length (a .b) (a .summed .now)) in
     words .shape .ensures
-    ∙ ap (λ (l : List ℕ). l ++ drop (11 * k) (a .telegram .now)) (ap (shaped k) (call .scramble .ensures) ∙ shaped-front k s rest within)
+    ∙ ap (λ (l : List ℕ). l ++ drop (11 * k) (a .telegram .now)) (ap (shaped k) (call .scramble .ensures) ∙ groups-front _++_ [] wordOfBlock 10 k s rest within)
     ∙ ap (λ (m : ℕ). shaped (m / 10) s ++ drop (11 * (m / 10)) (a .telegram .now)) (start .pre .1 .0)
 
 pub write-shaped-data-spec : {M : Type 1} → statement M

@@ -4,21 +4,18 @@ use mathlib.Core.List.{List, _++_}
 use Prim.Native.Nat.{ℕ, _/_}
 use borrow.Author.Needs.{needs}
 use lib.ListN.{length, take, drop}
-use lib.Seq.{take-at, drop-at, take-length}
 use Rattle.scrambling.specs.Sum.{withSum}
+use Rattle.telegrams.proofs.Buffers.Fronts.{front-is, rest-is, copied-whole}
 use Rattle.telegrams.proofs.making.write_summed.Statement.{statement}
 use Rattle.telegrams.proofs.making.write_summed.Tie as tie
 
 -- u is copied over the front of old, which becomes s
 module _ (u old s : List ℕ) (m : ℕ) (all : m ≡ length u) (e : s ≡ take (length u) u ++ drop (length u) old) where
-  whole : s ≡ u ++ drop (length u) old
-  whole = e ∙ ap (λ (l : List ℕ). l ++ drop (length u) old) (take-length u)
-
   copied : take m s ≡ u
-  copied = ap₂ take all whole ∙ take-at u (drop (length u) old) (length u) refl
+  copied = rw all (front-is u old s (length u) refl (copied-whole u old s e))
 
   kept : drop m s ≡ drop (length u) old
-  kept = ap₂ drop all whole ∙ drop-at u (drop (length u) old) (length u) refl
+  kept = rw all (rest-is u old s (length u) refl (copied-whole u old s e))
 
 copy-requires : tie.Need-copy-requires
 copy-requires c κs = search needs

@@ -1,32 +1,21 @@
--- The user bits over the front of the output: the first blocks of the words, descrambled there, and then the sum taken out in place.
--- Assumes nothing.
+-- The user bits over the front of a buffer, from the blocks of all words of a telegram. Assumes nothing.
 use mathlib.Core.Path.{_≡_, sym, ap, ap₂, _∙_}
 use mathlib.Core.List.{List, _++_}
 use Prim.Native.Nat.{ℕ, _/_}
 use lib.ListN.{length, take, drop}
-use lib.Seq.{take-at, drop-at}
+use Rattle.bits.proofs.Groups.{first-groups}
 use Rattle.formats.specs.Numbers.{Numbers, blocks}
 use Rattle.formats.proofs.Sizes.{Sizes}
 use Rattle.scrambling.specs.Scrambling.{descrambled}
 use Rattle.scrambling.specs.Sum.{withoutSum}
-use Rattle.scrambling.proofs.Scrambled.{descrambled-length}
-use Rattle.telegrams.specs.Fields.{scramblingOf, unshaped, userBitsOf}
-use Rattle.telegrams.proofs.Shaping.{length-unshaped}
-use Rattle.reader.proofs.Parts.Blocks.{first-blocks}
-
--- s is old with the scrambled bits v descrambled over its front
-module _ (B : ℕ) (v old s : List ℕ) (e : s ≡ descrambled B v ++ drop (length v) old) where
-  pub descrambled-front : take (length v) s ≡ descrambled B v
-  descrambled-front = ap (take (length v)) e ∙ take-at (descrambled B v) (drop (length v) old) (length v) (descrambled-length B v)
-
-  pub descrambled-back : drop (length v) s ≡ drop (length v) old
-  descrambled-back = ap (drop (length v)) e ∙ drop-at (descrambled B v) (drop (length v) old) (length v) (descrambled-length B v)
+use Rattle.telegrams.specs.Fields.{scramblingOf, blockOfWord, unshaped, userBitsOf}
+use Rattle.telegrams.proofs.Shaping.{length-block, length-unshaped}
 
 -- u has the blocks of all k words of the telegram b in front; the first m bits are those of the shaped data
 module _ (F : Numbers) (S : Sizes F) (b u rest : List ℕ) (k m : ℕ) (k-is : k ≡ F .words) (m-is : m ≡ F .m) (e : u ≡ unshaped k b ++ rest) where
   pub data-blocks : take m u ≡ unshaped (blocks F) b
   data-blocks =
-      ap₂ take (m-is ∙ S .m-is) (e ∙ ap (λ (i : ℕ). unshaped i b ++ rest) (k-is ∙ S .words-are)) ∙ first-blocks (blocks F) 10 b rest
+      ap₂ take (m-is ∙ S .m-is) (e ∙ ap (λ (i : ℕ). unshaped i b ++ rest) (k-is ∙ S .words-are)) ∙ first-groups blockOfWord 11 10 length-block (blocks F) 10 b rest
 
   data-size : length (take m u) ≡ F .m
   data-size = ap length data-blocks ∙ length-unshaped (blocks F) b ∙ sym (S .m-is)

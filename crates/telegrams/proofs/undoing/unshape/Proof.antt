@@ -1,25 +1,25 @@
--- `reader::unshaping::unshape` meets its contract. The loop's invariant: the blocks of the first j words stand in front, the rest is as it
+-- `telegrams::undoing::unshape` meets its contract. The loop's invariant: the blocks of the first j words stand in front, the rest is as it
 -- was, and the test of all words is that of the words not yet passed. Assumes nothing.
-use mathlib.Core.Path.{_≡_, refl, sym, ap, ap₂, _∙_}
-use mathlib.Core.Bool.{Bool, true, false}
-use mathlib.Core.List.{List, _++_}
+use mathlib.Core.Path.{_≡_, refl, sym, ap, _∙_}
+use mathlib.Core.Bool.{Bool, true, false, _&&_}
+use mathlib.Core.List.{_++_}
 use Prim.Native.Nat.{ℕ, _+_, _*_, _-_, _≤_}
 use native.Mathlib.Omega.{arith}
 use borrow.Author.Needs.{needs}
 use lib.ListN.{length, take, drop, length-drop}
-use Rattle.bits.specs.Bits.{both, numberOf, bitsOf}
+use Rattle.bits.specs.Bits.{numberOf, bitsOf}
+use Rattle.bits.specs.Groups.{overGroups}
 use Rattle.bits.proofs.AllBits.{allBits-drop}
+use Rattle.bits.proofs.Groups.{groups-next, groups-done}
 use Rattle.bits.proofs.Parts.{front-below}
 use Rattle.bits.proofs.Tests.{fails}
-use Rattle.words.specs.Words.{lookupOf, isNumber}
-use Rattle.telegrams.specs.Fields.{numberIn, isWord, allWords, unshaped}
-use Rattle.telegrams.proofs.Shaping.{length-unshaped}
-use Rattle.telegrams.proofs.Buffers.Blocks.{words-more, words-done}
-use Rattle.telegrams.proofs.Buffers.Fronts.{lent-is, front-more}
-use Rattle.reader.specs.AllWords.{wholeIf}
-use Rattle.reader.proofs.Parts.Blocks.{unshaped-more}
-use Rattle.reader.proofs.unshaping.unshape.Statement.{statement}
-use Rattle.reader.proofs.unshaping.unshape.Tie as tie
+use Rattle.words.specs.Words.{lookupOf, isNumber, isWord, numberIn}
+use Rattle.telegrams.specs.Fields.{blockOfWord, allWords, unshaped}
+use Rattle.telegrams.specs.Unshaped.{wholeIf}
+use Rattle.telegrams.proofs.Shaping.{length-block}
+use Rattle.telegrams.proofs.Buffers.Fronts.{lent-is, group-more}
+use Rattle.telegrams.proofs.undoing.unshape.Statement.{statement}
+use Rattle.telegrams.proofs.undoing.unshape.Tie as tie
 
 abbrev Inv-loop : tie.InvT-loop
 Inv-loop telegram k out₀ j₀ out j =
@@ -30,8 +30,11 @@ abbrev μ-loop : tie.MeasureT-loop
 μ-loop telegram k out₀ j₀ out j = k - j
 
 loop-holds : tie.Need-loop-holds Inv-loop μ-loop
-unfolding unshaped
-loop-holds c = (omega arith, refl, ap (λ (i : ℕ). allWords i (c .before .before .args .telegram .now)) (omega arith), refl)
+unfolding overGroups
+loop-holds c =
+    let a = c .before .before .args in
+    let all : a .k ≡ a .k - 0 = omega arith in
+    (omega arith, refl, ap (λ (i : ℕ). allWords i (a .telegram .now)) all, refl)
 
 mul-number : tie.Need-mul-number Inv-loop μ-loop
 mul-number c = omega arith
@@ -78,8 +81,8 @@ returns c =
     let j = l .loop .j in
     let others = allWords (a .k - (j + 1)) (drop (11 * (j + 1)) (a .telegram .now)) in
     let none : allWords (a .k) (a .telegram .now) ≡ false =
-    l .loop .inv .2 ∙ words-more (a .k) j (a .telegram .now) (omega arith)
-    ∙ ap (λ (t : Bool). both t others) (next (c .before .before) ∙ ap isNumber (c .enum-told .given .1)) in
+    l .loop .inv .2 ∙ groups-next _&&_ true isWord 11 (a .k) j (a .telegram .now) (omega arith)
+    ∙ ap (λ (t : Bool). t && others) (next (c .before .before) ∙ ap isNumber (c .enum-told .given .1)) in
     (ap wholeIf (sym none), λ h. absurd (fails (allWords (a .k) (a .telegram .now)) none h))
 
 mul-at : tie.Need-mul-at Inv-loop μ-loop
@@ -121,16 +124,12 @@ loop-again c =
     let j = l .loop .j in
     let i = word .i .given .0 .0 in
     let others = allWords (k - (j + 1)) (drop (11 * (j + 1)) b) in
-    let number : i ≡ numberIn (lookupOf (numberOf (take 11 (drop (11 * j) b)))) = sym (ap numberIn (found look ∙ word .i .given .1)) in
-    let place : 10 * j + 10 ≡ 10 * (j + 1) = omega arith in
-    let written =
-    front-more (unshaped j b) (bitsOf 10 i) old (l .loop .out) (called .write-number .last .0) (10 * j) 10 (length-unshaped j b)
-    (l .loop .inv .3) (called .write-number .ensures) in (
+    let number : i ≡ numberIn (lookupOf (numberOf (take 11 (drop (11 * j) b)))) = sym (ap numberIn (found look ∙ word .i .given .1)) in (
       omega arith,
       omega arith,
-      l .loop .inv .2 ∙ words-more k j b (omega arith) ∙ ap (λ (t : Bool). both t others) (next look ∙ ap isNumber (word .i .given .1)),
-      written
-          ∙ ap₂ (λ (front : List ℕ) (p : ℕ). front ++ drop p old) (ap (λ (x : ℕ). unshaped j b ++ bitsOf 10 x) number ∙ sym (unshaped-more j b)) place,
+      l .loop .inv .2 ∙ groups-next _&&_ true isWord 11 k j b (omega arith) ∙ ap (λ (t : Bool). t && others) (next look ∙ ap isNumber (word .i .given .1)),
+      group-more blockOfWord 11 10 length-block j b old (l .loop .out) (called .write-number .last .0) (bitsOf 10 i) (l .loop .inv .3)
+          (ap (bitsOf 10) number) (called .write-number .ensures),
     )
 
 same-length-2 : tie.Need-same-length-2 Inv-loop μ-loop
@@ -142,7 +141,7 @@ returns-2 c =
     let a = l .before .before .before .args in
     let all : l .loop .j ≡ a .k = omega arith in
     let whole : allWords (a .k) (a .telegram .now) ≡ true =
-    l .loop .inv .2 ∙ words-done (a .k) (l .loop .j) (drop (11 * l .loop .j) (a .telegram .now)) (omega arith) in (
+    l .loop .inv .2 ∙ groups-done _&&_ true isWord 11 (a .k) (l .loop .j) (drop (11 * l .loop .j) (a .telegram .now)) (omega arith) in (
       ap wholeIf (sym whole),
       λ h. l .loop .inv .3 ∙ ap (λ (j : ℕ). unshaped j (a .telegram .now) ++ drop (10 * j) (a .out .now)) all,
     )

@@ -1,4 +1,4 @@
--- `reader::telegram::write_user_bits` meets its contract, by those of `descramble` and `remove_sum`. Assumes nothing.
+-- `telegrams::undoing::write_user_bits` meets its contract, by those of `descramble` and `remove_sum`. Assumes nothing.
 use mathlib.Core.Path.{_≡_, sym, ap, ap₂, _∙_}
 use mathlib.Core.List.{List, _++_}
 use Prim.Native.Nat.{ℕ, _/_}
@@ -8,9 +8,9 @@ use lib.ListN.{length, take}
 use Rattle.scrambling.specs.Scrambling.{descrambled}
 use Rattle.scrambling.specs.Sum.{withoutSum}
 use Rattle.scrambling.proofs.Scrambled.{descrambled-length, descrambled-bits}
-use Rattle.reader.proofs.Parts.UserBits.{descrambled-front, descrambled-back}
-use Rattle.reader.proofs.telegram.write_user_bits.Statement.{statement}
-use Rattle.reader.proofs.telegram.write_user_bits.Tie as tie
+use Rattle.telegrams.proofs.Buffers.Fronts.{front-is, rest-is}
+use Rattle.telegrams.proofs.undoing.write_user_bits.Statement.{statement}
+use Rattle.telegrams.proofs.undoing.write_user_bits.Tie as tie
 
 descramble-requires : tie.Need-descramble-requires
 descramble-requires c κs = search needs
@@ -21,7 +21,7 @@ front : (c : tie.After-descramble) →
     take (length (a .scrambled .now)) (c .descramble .last .1 .1 .0) ≡ descrambled (a .b) (a .scrambled .now)
 front c =
     let a = c .before .before .before .before .args in
-    descrambled-front (a .b) (a .scrambled .now) (a .output .now) (c .descramble .last .1 .1 .0) (c .descramble .ensures)
+    front-is (descrambled (a .b) (a .scrambled .now)) (a .output .now) _ _ (descrambled-length (a .b) (a .scrambled .now)) (c .descramble .ensures)
 
 slice-relend-prefix-remove-sum : tie.Need-slice-relend-prefix-remove-sum
 slice-relend-prefix-remove-sum c = search needs
@@ -52,7 +52,7 @@ returns c =
     ap₂ _++_
     (sum .remove-sum .ensures ∙ ap (λ (l : List ℕ). withoutSum (length l / 10) l) (front call)
     ∙ ap (λ (i : ℕ). withoutSum (i / 10) u) (descrambled-length (a .b) (a .scrambled .now)))
-    (descrambled-back (a .b) (a .scrambled .now) (a .output .now) (call .descramble .last .1 .1 .0) (call .descramble .ensures))
+    (rest-is u (a .output .now) _ _ (descrambled-length (a .b) (a .scrambled .now)) (call .descramble .ensures))
 
 pub write-user-bits-spec : {M : Type 1} → statement M
 write-user-bits-spec =
