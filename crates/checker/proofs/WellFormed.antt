@@ -7,7 +7,7 @@ use borrow.Author.Tests.{eq-eqb}
 use lib.Dec.{T}
 use lib.ListN.{length}
 use Rattle.bits.specs.Bits.{allBits, same}
-use Rattle.bits.proofs.Both.{both-left, both-right, both-of}
+use Rattle.bits.proofs.And.{and-left, and-right, and-of}
 use Rattle.bits.proofs.Equal.{same-equal, same-of}
 use Rattle.bits.proofs.Tests.{is-true}
 use Rattle.formats.specs.declared.format.Format.{Format}
@@ -40,8 +40,8 @@ formed format b h =
     record {
       size = p .size;
       bits = p .bits;
-      divides = both-left (divisible F b) (unturned F b) factors;
-      turn = both-right (divisible F b) (unturned F b) factors;
+      divides = and-left (divisible F b) (unturned F b) factors;
+      turn = and-right (divisible F b) (unturned F b) factors;
       has-control = same-of (controlOf F b) control (p .control-is);
       all-words = p .all-words;
     }
@@ -49,7 +49,7 @@ formed format b h =
 pub well-formed : (format : Format) (b : List ℕ) → Formed format b → T (wellFormed (numbersOf format) b)
 well-formed format b p =
     let F = numbersOf format in
-    let factors = both-of (divisible F b) (unturned F b) (p .divides) (p .turn) in
+    let factors = and-of (divisible F b) (unturned F b) (p .divides) (p .turn) in
     from-parts F b
     record {
       size = p .size;
@@ -64,10 +64,11 @@ pub form-passed : (format : Format) (b : List ℕ) → T (wellFormed (numbersOf 
     → Decides (conditionTable format b) v → Decides (checkTable format b) v
 unfolding checkTable
 form-passed format b h v d =
+    let F = numbersOf format in
     let p = formed format b h in
-    passed (eq-eqb (length b) (numbersOf format .n) (p .size))
-    (passed (is-true _ (p .bits))
-    (passed (is-true _ (p .divides))
-    (passed (is-true _ (p .turn))
-    (passed (is-true _ (p .has-control))
-    (passed (is-true _ (p .all-words)) d)))))
+    passed (eq-eqb (length b) (F .n) (p .size))
+    (passed (is-true (allBits b) (p .bits))
+    (passed (is-true (divisible F b) (p .divides))
+    (passed (is-true (unturned F b) (p .turn))
+    (passed (is-true (same (controlOf F b) control) (p .has-control))
+    (passed (is-true (allWords (F .words) b) (p .all-words)) d)))))

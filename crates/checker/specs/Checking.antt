@@ -16,7 +16,7 @@ use Rattle.refusals.specs.AnswerValues.{formatNumber}
 use Rattle.cyclic.specs.Check.{divisible, unturned}
 use Rattle.telegrams.specs.Telegram.{control}
 use Rattle.telegrams.specs.Fields.{controlOf, allWords}
-use Rattle.conditions.specs.Conditions.{offStep, notRepeating, thinnedOut}
+use Rattle.conditions.specs.Conditions.{offStepWithin, notRepeating, thinnedWithin}
 use Rattle.checker.specs.declared.Checked.{Checked}
 use Rattle.checker.specs.declared.Checked.the-variants.{Proper, Refused}
 
@@ -32,9 +32,9 @@ formatOf b = formatFor (short .n) (length b)
 -- when refusals 10, 11 and 12 apply: condition 2, 3 or 4 fails
 unfoldable pub conditionTable : Format → List ℕ → List (Row Refusal)
 conditionTable format b =
-    OffStep when not (offStep format b)
+    OffStep when not (offStepWithin format b)
     ∷ Repeating when not (notRepeating format b)
-    ∷ Thinned when not (thinnedOut format b)
+    ∷ Thinned when not (thinnedWithin format b)
     ∷ []
 
 -- when each refusal applies to bytes that are to be the format's telegram

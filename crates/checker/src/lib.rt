@@ -27,13 +27,13 @@ fn check_conditions(format: Format, telegram: &[u8]) -> Checked
     requires { ⌜ T (wellFormed (numbersOf format) (now telegram)) ⌝ }
     ensures { λ r. ⌜ r ≡ checkAs format (now (telegram .entry)) ⌝ }
 {
-    if !off_step::off_step(format, telegram) {
+    if !off_step::within(format, telegram) {
         return Checked::Refused(Refusal::OffStep);
     }
     if !repeating::not_repeating(format, telegram) {
         return Checked::Refused(Refusal::Repeating);
     }
-    if !thinned::thinned_out(format, telegram) {
+    if !thinned::within(format, telegram) {
         return Checked::Refused(Refusal::Thinned);
     }
     Checked::Proper(format)

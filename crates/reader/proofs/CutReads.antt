@@ -26,6 +26,7 @@ use Rattle.telegrams.specs.Telegram.{control}
 use Rattle.telegrams.specs.Fields.{controlOf, scramblingOf, allWords, userBitsOf, wellFormed}
 use Rattle.telegrams.proofs.Checked.{checked-remainder}
 use Rattle.telegrams.proofs.WellFormed.{parts}
+use Rattle.reader.specs.declared.Reading.{Reading}
 use Rattle.reader.specs.Windows.{oriented, cut}
 use Rattle.reader.specs.Reads.{endsAgree, turnFound, isTurn, whichTurn, turnIn, isFlipped, turnedBack, telegramIn, readingOf, readingIn, userBitsIn, readsAs}
 use Rattle.reader.specs.CutFrom.{CutFrom}
@@ -155,3 +156,16 @@ cut-tells format w B t flipped u c =
     let some : 0 < length b = omega (arith, parts F b (c .well-formed) .size, sizesOf format .n-is) in
     rw (c .window ∙ cut-oriented (windowBits F) t flipped b some, ← c .scrambling, ← c .userBits)
     (ring-tells format b t flipped (c .well-formed) (c .turn))
+
+-- so one window is cut from telegrams with one B and one block only, at one turn and one way up
+pub cut-once : (format : Format) (w : List ℕ) (B C s t : ℕ) (f g : Bool) (u v : List ℕ) → CutFrom format w B s f u → CutFrom format w C t g v
+    → (u ≡ v) × (B ≡ C) × (s ≡ t) × (f ≡ g)
+cut-once format w B C s t f g u v c d =
+    let one = cut-tells format w B s f u c in
+    let other = cut-tells format w C t g v d in
+    let readings = sym (one .reading) ∙ other .reading in (
+      sym (one .userBits) ∙ other .userBits,
+      ap (λ (r : Reading). r .scrambling) readings,
+      ap (λ (r : Reading). r .turn) readings,
+      ap (λ (r : Reading). r .flipped) readings,
+    )

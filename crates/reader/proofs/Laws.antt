@@ -35,7 +35,8 @@ module _ (format : Format) (w : List ℕ) where
   -- ends that differ are never accepted
   pub ends-unread : endsAgree (numbersOf format) w ≡ false → readsAs format w ≡ false
   ends-unread e =
-      is-false (readsAs format w) (λ h. let ends = reads-passed format w .0 h .ends in fails (endsAgree (numbersOf format) w) e (holds (endsAgree (numbersOf format) w) ends))
+      let F = numbersOf format in
+      is-false (readsAs format w) (λ h. fails (endsAgree F w) e (holds (endsAgree F w) (reads-passed format w .0 h .ends)))
 
   pub reading-format : readingIn format w .format ≡ format
   unfolding readingIn readingOf

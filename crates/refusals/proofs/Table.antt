@@ -7,16 +7,9 @@ use mathlib.Core.List.{List, [], _∷_}
 use mathlib.Core.Logic.{_↔_, _⊎_, inl, inr}
 use native.Mathlib.Omega.{arith}
 use lib.Dec.{T, ltb, ltb→lt}
+use Rattle.bits.proofs.And.{and-left, and-right}
 use Rattle.bits.proofs.Tests.{clash}
 use Rattle.refusals.specs.Table.{Row, _when_, Verdict, refused, accepted, verdict, answerBy, RowApplies, Applies, FirstApplies, Lowest, RefusesBy, risesAbove}
-
-and-left : (a b : Bool) → T (a && b) → T a
-and-left true b t = tt
-and-left false b t = t
-
-and-right : (a b : Bool) → T (a && b) → T b
-and-right true b t = t
-and-right false b t = absurd t
 
 module _ {R : Type 0} where
   -- ---- a verdict is one of the two

@@ -27,12 +27,12 @@ answered : (c : tie.Start) (v : Verdict Refusal) → Decides (conditionTable (c 
     → answerBy Refused (Proper (c .args .format)) v ≡ checkAs (c .args .format) (c .args .telegram .now)
 answered c v d = sym (decided _ _ v (form-passed _ _ (c .pre) v d))
 
-off-step-requires : tie.Need-off-step-requires
-off-step-requires c κs = sized-bits (c .before)
+within-requires : tie.Need-within-requires
+within-requires c κs = sized-bits (c .before)
 
 returns : tie.Need-returns
 unfolding conditionTable
-returns c = answered (c .before .before .before) _ (failed (sym (c .before .off-step .ensures) ∙ not-true _ (c .if1 .taken)))
+returns c = answered (c .before .before .before) _ (failed (sym (c .before .within .ensures) ∙ not-true _ (c .if1 .taken)))
 
 not-repeating-requires : tie.Need-not-repeating-requires
 not-repeating-requires c κs = sized-bits (c .before .before .before)
@@ -42,11 +42,11 @@ unfolding conditionTable
 returns-2 c =
     let at1 = c .before .before in
     answered (at1 .before .before .before) _
-    (passed (sym (at1 .before .off-step .ensures) ∙ not-false _ (at1 .if1 .left))
+    (passed (sym (at1 .before .within .ensures) ∙ not-false _ (at1 .if1 .left))
     (failed (sym (c .before .not-repeating .ensures) ∙ not-true _ (c .if2 .taken))))
 
-thinned-out-requires : tie.Need-thinned-out-requires
-thinned-out-requires c κs = sized-bits (c .before .before .before .before .before)
+within-requires-2 : tie.Need-within-requires-2
+within-requires-2 c κs = sized-bits (c .before .before .before .before .before)
 
 returns-3 : tie.Need-returns-3
 unfolding conditionTable
@@ -54,9 +54,9 @@ returns-3 c =
     let at2 = c .before .before in
     let at1 = at2 .before .before in
     answered (at1 .before .before .before) _
-    (passed (sym (at1 .before .off-step .ensures) ∙ not-false _ (at1 .if1 .left))
+    (passed (sym (at1 .before .within .ensures) ∙ not-false _ (at1 .if1 .left))
     (passed (sym (at2 .before .not-repeating .ensures) ∙ not-false _ (at2 .if2 .left))
-    (failed (sym (c .before .thinned-out .ensures) ∙ not-true _ (c .if3 .taken)))))
+    (failed (sym (c .before .within2 .ensures) ∙ not-true _ (c .if3 .taken)))))
 
 returns-4 : tie.Need-returns-4
 unfolding conditionTable
@@ -64,18 +64,18 @@ returns-4 c =
     let at2 = c .before .before in
     let at1 = at2 .before .before in
     answered (at1 .before .before .before) _
-    (passed (sym (at1 .before .off-step .ensures) ∙ not-false _ (at1 .if1 .left))
+    (passed (sym (at1 .before .within .ensures) ∙ not-false _ (at1 .if1 .left))
     (passed (sym (at2 .before .not-repeating .ensures) ∙ not-false _ (at2 .if2 .left))
-    (passed (sym (c .before .thinned-out .ensures) ∙ not-false _ (c .if3 .left)) all-passed)))
+    (passed (sym (c .before .within2 .ensures) ∙ not-false _ (c .if3 .left)) all-passed)))
 
 pub check-conditions-spec : {M : Type 1} → statement M
 check-conditions-spec =
     tie.close
     (tie.spec
-    off-step-requires
+    within-requires
     returns
     not-repeating-requires
     returns-2
-    thinned-out-requires
+    within-requires-2
     returns-3
     returns-4)

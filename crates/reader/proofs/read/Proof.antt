@@ -37,7 +37,7 @@ returns c =
     let a = picked .before .before .before .args in
     read-is picked
     ∙ length-refused (picked .of-length .result) (a .window .now) (a .output .now)
-    (λ size. c .if1 .taken (size ∙ sym (c .before .window-bits .ensures)))
+    (λ size. omega arith)
 
 -- the length is that of the format picked
 size : (c : tie.Else1) →
