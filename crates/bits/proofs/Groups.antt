@@ -5,15 +5,16 @@ use mathlib.Core.Bool.{Bool}
 use mathlib.Core.List.{List, [], _++_, append-nil, append-assoc}
 use Prim.Native.Nat.{ℕ, zero, suc, _+_, _-_, _*_, _≤_, _<_}
 use native.Mathlib.Nat.{zero-add, suc-add, add-comm, mul-zero, mul-suc}
-use native.Mathlib.Numerals.{add-one}
 use native.Mathlib.Omega.{arith}
 use lib.Dec.{T}
 use lib.ListN.{length, take, drop, length-append, length-drop}
-use lib.Seq.{take-at, drop-at, take-add, drop-drop, take-append-le, drop-append-le}
+use lib.Seq.{take-add, take-append-le, drop-append-le}
 use Rattle.bits.specs.Bits.{allBits}
 use Rattle.bits.specs.Groups.{overGroups, eachGroup, everyGroup}
 use Rattle.bits.proofs.AllBits.{allBits-nil, allBits-append, allBits-drop}
 use Rattle.bits.proofs.And.{and-left, and-right, and-of}
+use Rattle.bits.proofs.Parts.{front-is, rest-is, drop-from}
+use Rattle.bits.proofs.Rest.{count-more, count-done}
 
 -- one group and k more
 one-more : (w k : ℕ) → w + w * k ≡ w * suc k
@@ -30,11 +31,8 @@ module _ {A : Type 0} (op : A → A → A) (e : A) (f : List ℕ → A) (w : ℕ
   groups-add unit assoc (suc j) k s =
       let group = f (take w s) in
       let others = overGroups op e f w j (drop w s) in
-      rw (suc-add j k)
-      (ap (op group) (groups-add unit assoc j k (drop w s))
-      ∙ sym (assoc group others (overGroups op e f w k (drop (w * j) (drop w s))))
-      ∙ ap (λ (l : List ℕ). op (op group others) (overGroups op e f w k l))
-      (drop-drop (w * j) w s ∙ ap (λ (i : ℕ). drop i s) (one-more w j)))
+      rw (suc-add j k, drop-from w (w * j) (w * suc j) s (one-more w j))
+      (ap (op group) (groups-add unit assoc j k (drop w s)) ∙ sym (assoc group others (overGroups op e f w k (drop (w * j) (drop w s)))))
 
   -- of k groups the next after j, and the rest after it
   pub groups-next : (k j : ℕ) (s : List ℕ) → j < k
@@ -42,16 +40,13 @@ module _ {A : Type 0} (op : A → A → A) (e : A) (f : List ℕ → A) (w : ℕ
       ≡ op (f (take w (drop (w * j) s))) (overGroups op e f w (k - (j + 1)) (drop (w * (j + 1)) s))
   unfolding overGroups
   groups-next k j s h =
-      let left : k - j ≡ suc (k - (j + 1)) = omega arith in
-      let place : w * j + w ≡ w * (j + 1) = sym (rw (add-one, mul-suc)) in
-      rw left (ap (λ (l : List ℕ). op (f (take w (drop (w * j) s))) (overGroups op e f w (k - (j + 1)) l)) (drop-drop w (w * j) s ∙ ap (λ (i : ℕ). drop i s) place))
+      let place : w * j + w ≡ w * (j + 1) = omega arith in
+      rw (count-more h, drop-from (w * j) w (w * (j + 1)) s place)
 
   -- no group is left
   pub groups-done : (k j : ℕ) (s : List ℕ) → k ≤ j → overGroups op e f w (k - j) s ≡ e
   unfolding overGroups
-  groups-done k j s h =
-      let none : k - j ≡ 0 = omega arith in
-      rw none
+  groups-done k j s h = rw (count-done h)
 
   -- what stands after the groups does not count
   pub groups-front : (k : ℕ) (s rest : List ℕ) → w * k ≤ length s → overGroups op e f w k (s ++ rest) ≡ overGroups op e f w k s
@@ -88,9 +83,8 @@ module _ (f : List ℕ → List ℕ) (w v : ℕ) (size : (s : List ℕ) → leng
   pub first-groups : (j k : ℕ) (s rest : List ℕ) → take (v * j) (eachGroup f w (j + k) s ++ rest) ≡ eachGroup f w j s
   first-groups j k s rest =
       let others = eachGroup f w k (drop (w * j) s) in
-      ap (λ (l : List ℕ). take (v * j) (l ++ rest)) (groups-add _++_ [] f w (λ a. refl) append-assoc j k s)
-      ∙ ap (take (v * j)) (append-assoc (eachGroup f w j s) others rest)
-      ∙ take-at (eachGroup f w j s) (others ++ rest) (v * j) (length-groups j s)
+      front-is (eachGroup f w j s) (others ++ rest) _ (v * j) (length-groups j s)
+      (ap (λ (l : List ℕ). l ++ rest) (groups-add _++_ [] f w (λ a. refl) append-assoc j k s) ∙ append-assoc (eachGroup f w j s) others rest)
 
   -- what g tells of those is what g after f tells
   pub groups-of-groups : {A : Type 0} (op : A → A → A) (e : A) (g : List ℕ → A) (k : ℕ) (s rest : List ℕ)
@@ -102,8 +96,8 @@ module _ (f : List ℕ → List ℕ) (w v : ℕ) (size : (s : List ℕ) → leng
       let others = eachGroup f w k (drop w s) ++ rest in
       let split = append-assoc group (eachGroup f w k (drop w s)) rest in
       ap₂ (λ (x l : List ℕ). op (g x) (overGroups op e g v k l))
-      (ap (take v) split ∙ take-at group others v (size (take w s)))
-      (ap (drop v) split ∙ drop-at group others v (size (take w s)))
+      (front-is group others _ v (size (take w s)) split)
+      (rest-is group others _ v (size (take w s)) split)
       ∙ ap (op (g group)) (groups-of-groups op e g k (drop w s) rest)
 
 -- ---- groups of bits that pass a test

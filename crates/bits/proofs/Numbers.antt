@@ -2,7 +2,7 @@
 use mathlib.Core.Path.{_≡_, refl, sym, ap, ap₂, _∙_}
 use mathlib.Core.List.{List, [], _∷_, _++_}
 use Prim.Native.Nat.{ℕ, zero, suc, _+_, _*_, _/_, _%_, _^_, _<_}
-use native.Mathlib.Nat.{pow-suc, mul-assoc, add-mul, add-assoc, mul-comm, zero-add}
+use native.Mathlib.Nat.{pow-suc, mul-assoc, add-mul, add-assoc, mul-comm, zero-add, mod-eq-of-lt}
 use native.Mathlib.Numerals.{add-one, one-add}
 use native.Mathlib.Omega.{arith}
 use lib.Arith.{digits-lt}
@@ -67,6 +67,9 @@ from-bitsOf a (suc k) x =
 
 pub numberOf-bitsOf : (k x : ℕ) → numberOf (bitsOf k x) ≡ x % 2 ^ k
 numberOf-bitsOf k x = from-bitsOf 0 k x ∙ omega arith
+
+pub number-bits : (k x : ℕ) → x < 2 ^ k → numberOf (bitsOf k x) ≡ x
+number-bits k x h = numberOf-bitsOf k x ∙ mod-eq-of-lt h
 
 bitsOf-from : (a : ℕ) (s : List ℕ) → T (allBits s) → bitsOf (length s) (numberFrom a s) ≡ s
 unfolding bitsOf numberFrom

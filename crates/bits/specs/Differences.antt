@@ -1,4 +1,4 @@
--- Two lists held against each other (document 01, condition 3 and "Demand 3's windows").
+-- Two lists compared place by place (document 01, condition 3 and "Demand 3's windows").
 -- Assumes nothing.
 use Prim.Native.Nat.{ℕ, suc}
 use mathlib.Core.Bool.{Bool, true, false}

@@ -10,7 +10,7 @@ use Rattle.bits.specs.Bits.{around}
 use Rattle.bits.specs.Differences.{differences}
 use Rattle.formats.specs.declared.format.Format.{Format}
 use Rattle.formats.specs.declared.format.Format.the-variants.{Long, Short}
-use Rattle.formats.specs.Numbers.{numbersOf}
+use Rattle.formats.specs.Numbers.{long, numbersOf}
 use Rattle.telegrams.specs.Fields.{wellFormed}
 use Rattle.conditions.specs.Runs.{validWords, longest, longestRound}
 
@@ -48,7 +48,7 @@ shiftedApart b p = apart 3 b p 341 && fromTo 1 3 (λ (k : ℕ). apart 2 b p (341
 
 -- i divisible by 11 is p divisible by 11, since n is
 unfoldable pub notRepeating : Format → List ℕ → Bool
-notRepeating Long b = fromTo 0 92 (λ (j : ℕ). shiftedApart b (11 * j))
+notRepeating Long b = fromTo 0 (long .words - 1) (λ (j : ℕ). shiftedApart b (11 * j))
 notRepeating Short b = true
 
 -- condition 4. v(j) = b(j*2^k) for j from n-1 down to 0

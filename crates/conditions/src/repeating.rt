@@ -1,6 +1,6 @@
 // Condition 3, of the long format only (document 01, "Four conditions of a proper telegram").
 ghost use mathlib.Core.Path.{_≡_};
-ghost use Prim.Native.Nat.{ℕ, _+_, _*_, _≤_, _<_};
+ghost use Prim.Native.Nat.{ℕ, _+_, _-_, _*_, _≤_, _<_};
 ghost use lib.Dec.{T};
 ghost use lib.ListN.{length};
 ghost use Rattle.bits.specs.Bits.{allBits, around};
@@ -61,7 +61,7 @@ fn shifted_apart(b: &[u8], p: usize) -> bool
 // Whether condition 3 holds at each word of a long telegram.
 fn each_shifted_apart(b: &[u8]) -> bool
     requires { ⌜ length (now b) ≡ long .n ⌝ }
-    ensures { λ r. ⌜ r ≡ fromTo 0 92 (λ (j : ℕ). shiftedApart (now (b .entry)) (11 * j)) ⌝ }
+    ensures { λ r. ⌜ r ≡ fromTo 0 (long .words - 1) (λ (j : ℕ). shiftedApart (now (b .entry)) (11 * j)) ⌝ }
 {
     for j in 0..Long::WORDS {
         if !shifted_apart(b, 11 * j) {

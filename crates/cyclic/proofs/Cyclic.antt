@@ -140,7 +140,7 @@ module _ (F : Numbers) (A : Facts F) where
       remainder-is 9 (fOf F) (A .f-degree) (gOf F ++ zeros s) (allBits-append (gOf F) (zeros s) (A .g-degree .bits) (bits-zeros s))
       ∙ ap (λ (r : Reg 10). r .of) (run-append modF (one 9) (none 10) (gOf F) (zeros s) ∙ zeros-back modF (one 9) (remF (gOf F)) s)
 
-  -- n turns of g come back
+  -- n turns of g give g
   pub g-round : pow modF (F .n) (remF (gOf F)) ≡ remF (gOf F)
   g-round = pow-times modF (F .n) (gOf F) (one 9) ∙ ap (times modF (gOf F)) (round-trip 9 (fOf F) (A .f-degree) f-divides)
 

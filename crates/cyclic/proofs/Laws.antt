@@ -129,10 +129,10 @@ module _ (F : Numbers) (A : Facts F) where
         λ e. whole-is ∙ ap (λ (r : Reg 85). r .of) (split ∙ ap (M .add front) (same-bits {a = reg} {b = M .add front g} (e ∙ checked)) ∙ twice M front g) ∙ sym (padded-is F A),
       )
 
--- f*g divides x^1023+1 in the long format
-pub long-round : remainder (fgOf long) (polynomial (1023 ∷ 0 ∷ [])) ≡ zeros 85
+-- f*g divides x^n+1 in the long format
+pub long-round : remainder (fgOf long) (polynomial (long .n ∷ 0 ∷ [])) ≡ zeros 85
 long-round = longFacts .round
 
--- and x^341+1 in the short one
-pub short-round : remainder (fgOf short) (polynomial (341 ∷ 0 ∷ [])) ≡ zeros 85
+-- and in the short one
+pub short-round : remainder (fgOf short) (polynomial (short .n ∷ 0 ∷ [])) ≡ zeros 85
 short-round = shortFacts .round

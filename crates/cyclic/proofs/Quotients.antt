@@ -168,12 +168,12 @@ module _ (k : ℕ) (d : List ℕ) (m : Monic (suc k) d) where
         ∙ divided-from M e k (t .of) (zeros (suc k)) v (bits-zeros (suc k)) h (t .size) (length-zeros (suc k))
         ∙ ap₂ (λ (x : M .Car) (l : List ℕ). M .add x (times M (quotient v) (times M l e))) (zeros-front M (suc k) v e) (sym (leading m))
 
-    -- where d is nothing, the remainder is worth as much as the whole
+    -- where d times e is nil, the remainder times e is the whole times e
     pub through : times M d e ≡ M .nil → times M (remainder d v) e ≡ times M v e
     through z =
         divided ∙ ap (M .add (times M v e)) (ap (times M (quotient v)) z ∙ times-nil M (quotient v)) ∙ unit-right M (times M v e)
 
-    -- where nothing is left, the whole is the quotient times d
+    -- where the remainder is 0, the whole is the quotient times d
     pub whole : remainder d v ≡ zeros (suc k) → times M v e ≡ times M (quotient v) (times M d e)
     whole z =
         let q = times M (quotient v) (times M d e) in

@@ -14,7 +14,7 @@ use Rattle.formats.specs.Polynomial.{sum, timesBit}
 use Rattle.cyclic.specs.Remainder.{reduced, step, remainderFrom, remainder}
 use Rattle.bits.proofs.AllBits.{allBits-nil, allBits-cons, allBits-head, allBits-tail, allBits-append, allBits-drop}
 use Rattle.cyclic.proofs.Lists.{Bits, zeros, length-zeros, bits-zeros, bits-sum, by-bit, length-sum, sum-assoc, sum-comm, sum-zeros, sum-self, sum-append}
-use Rattle.cyclic.proofs.Space.{Space, run, times, pick}
+use Rattle.cyclic.proofs.Space.{Space, swap-of, run, times, pick}
 
 -- n bits
 pub record Reg (n : ℕ) : Type 0 where
@@ -71,13 +71,7 @@ timesBit-sum t a b h p q =
     (by-bit (λ (b : ℕ). timesBit ((1 + b) % 2) t ≡ sum t (timesBit b t)) (sym (zeros-right t n h refl)) (sym (sum-self t)) b q)
     a p
 
--- the middle two of four summands change places
-sum-swap : (a b c d : List ℕ) → sum (sum a b) (sum c d) ≡ sum (sum a c) (sum b d)
-sum-swap a b c d =
-    sum-assoc a b (sum c d) ∙ ap (sum a) (sym (sum-assoc b c d) ∙ ap (λ (x : List ℕ). sum x d) (sum-comm b c) ∙ sum-assoc c b d)
-    ∙ sym (sum-assoc a c (sum b d))
-
--- a step goes through sums
+-- a step commutes with sums
 pub step-sum : (t s r : List ℕ) (b c : ℕ) → Bits t → Bits s → Bits r → length s ≡ length t → length r ≡ length t → b < 2 → c < 2
     → step t (sum s r) ((b + c) % 2) ≡ sum (step t s b) (step t r c)
 unfolding step sum
@@ -89,7 +83,7 @@ step-sum t (x ∷ s) (y ∷ r) b c ht hs hr l m p q =
     let same : length s ≡ length r = omega arith in
     step-is t (sum s r) ((x + y) % 2) ((b + c) % 2) (omega arith) (omega arith) (bits-sum s r) (ap suc (length-sum s r same) ∙ l)
     ∙ ap₂ sum (sym (sum-append s r (b ∷ []) (c ∷ []) same)) (timesBit-sum t x y ht xb yb)
-    ∙ sum-swap (s ++ (b ∷ [])) (r ++ (c ∷ [])) (timesBit x t) (timesBit y t)
+    ∙ swap-of sum sum-assoc sum-comm (s ++ (b ∷ [])) (r ++ (c ∷ [])) (timesBit x t) (timesBit y t)
     ∙ sym (ap₂ sum (step-is t s x b xb p (allBits-tail x s hs) l) (step-is t r y c yb q (allBits-tail y r hr) m))
 
 -- no bit set

@@ -30,7 +30,7 @@ unfolding P polynomial coefficientsBelow
 length-P = refl
 
 -- three rounds of 341 bits are they times P
-rounds-P : (M : Space) (v : List ℕ) (e : M .Car) → length v ≡ 341 → times M (v ++ (v ++ v)) e ≡ times M v (times M P e)
+rounds-P : (M : Space) (v : List ℕ) (e : M .Car) → length v ≡ short .n → times M (v ++ (v ++ v)) e ≡ times M v (times M P e)
 rounds-P M v e l =
     let o : List ℕ = zeros 340 ++ (1 ∷ []) in
     let three : M .Car = M .add (pow M (341 + 341) e) (M .add (pow M 341 e) e) in
@@ -40,7 +40,7 @@ rounds-P M v e l =
     rounds M v e ∙ ap (λ (n : ℕ). times M v (M .add (pow M (n + n) e) (M .add (pow M n e) e))) l ∙ ap (times M v) (sym as-three)
 
 -- what the short g divides leaves, thrice, nothing by the long g and nothing by the long f
-pub thrice : (v : List ℕ) → Bits v → length v ≡ 341 → remainder (gOf short) v ≡ zeros 75
+pub thrice : (v : List ℕ) → Bits v → length v ≡ short .n → remainder (gOf short) v ≡ zeros 75
     → (remainder (gOf long) (v ++ (v ++ v)) ≡ zeros 75) × (remainder (fOf long) (v ++ (v ++ v)) ≡ zeros 10)
 unfolding P
 thrice v h l z =

@@ -10,6 +10,12 @@ use lib.Dec.{lit<}
 use lib.ListN.{length, replicate}
 use Rattle.formats.specs.Polynomial.{sum}
 
+-- the middle two of four change places
+pub swap-of : {A : Type 0} (op : A → A → A) → ((a b c : A) → op (op a b) c ≡ op a (op b c)) → ((a b : A) → op a b ≡ op b a)
+    → (a b c d : A) → op (op a b) (op c d) ≡ op (op a c) (op b d)
+swap-of {A} op assoc comm a b c d =
+    assoc a b (op c d) ∙ ap (op a) (sym (assoc b c d) ∙ ap (λ (x : A). op x d) (comm b c) ∙ assoc c b d) ∙ sym (assoc a c (op b d))
+
 pub record Space : Type 1 where
   pub Car : Type 0
   pub nil : Car
@@ -30,7 +36,7 @@ chosen M (suc k) e = e
 abbrev pub pick : (M : Space) → ℕ → M .Car → M .Car
 pick M b e = chosen M (b % 2) e
 
--- the register s after the coefficients of v came in, each worth e
+-- the register s after the coefficients of v came in, each times e
 unfoldable pub run : (M : Space) → M .Car → M .Car → List ℕ → M .Car
 run M e s [] = s
 run M e s (b ∷ v) = run M e (M .add (M .X s) (pick M b e)) v
@@ -44,7 +50,7 @@ unfoldable pub pow : (M : Space) → ℕ → M .Car → M .Car
 pow M zero s = s
 pow M (suc k) s = M .X (pow M k s)
 
--- a map from one space to another that goes through sums and shifts
+-- a map from one space to another that commutes with sums and shifts
 pub record Linear (M N : Space) (φ : M .Car → N .Car) : Type 0 where
   pub on-add : (a b : M .Car) → φ (M .add a b) ≡ N .add (φ a) (φ b)
   pub on-X : (a : M .Car) → φ (M .X a) ≡ N .X (φ a)
@@ -56,12 +62,10 @@ module _ (M : Space) where
   pub unit-right : (a : Car) → add a nil ≡ a
   unit-right a = comm a nil ∙ unit a
 
-  -- the middle two of four change places
   pub swap-middle : (a b c d : Car) → add (add a b) (add c d) ≡ add (add a c) (add b d)
-  swap-middle a b c d =
-      assoc a b (add c d) ∙ ap (add a) (sym (assoc b c d) ∙ ap (λ (x : Car). add x d) (comm b c) ∙ assoc c b d) ∙ sym (assoc a c (add b d))
+  swap-middle = swap-of add assoc comm
 
-  -- what is added twice falls away
+  -- what is added twice cancels
   pub twice : (a b : Car) → add a (add a b) ≡ b
   twice a b = sym (assoc a a b) ∙ ap (λ (x : Car). add x b) (self a) ∙ unit b
 
@@ -104,7 +108,7 @@ module _ (M : Space) where
   pow-X zero s = refl
   pow-X (suc k) s = ap X (pow-X k s)
 
-  -- worth nothing, the coefficients only shift
+  -- times nil, the coefficients only shift
   run-nil : (s : Car) (v : List ℕ) → run M nil s v ≡ pow M (length v) s
   unfolding run pow
   run-nil s [] = refl
@@ -147,12 +151,12 @@ module _ (M N : Space) (φ : M .Car → N .Car) (L : Linear M N φ) where
   pub linear-nil : φ (M .nil) ≡ N .nil
   linear-nil = sym (ap φ (M .unit (M .nil))) ∙ L .on-add (M .nil) (M .nil) ∙ N .self (φ (M .nil))
 
-  -- what is picked goes through it
+  -- it commutes with what is picked
   linear-chosen : (k : ℕ) (e : M .Car) → φ (chosen M k e) ≡ chosen N k (φ e)
   linear-chosen zero e = linear-nil
   linear-chosen (suc k) e = refl
 
-  -- runs go through it
+  -- with runs
   pub linear-run : (e s : M .Car) (v : List ℕ) → φ (run M e s v) ≡ run N (φ e) (φ s) v
   unfolding run
   linear-run e s [] = refl
@@ -161,7 +165,7 @@ module _ (M N : Space) (φ : M .Car → N .Car) (L : Linear M N φ) where
       ∙ ap (λ (x : N .Car). run N (φ e) x v)
       (L .on-add (M .X s) (pick M b e) ∙ ap₂ (N .add) (L .on-X s) (linear-chosen (b % 2) e))
 
-  -- and so do products
+  -- and with products
   pub linear-times : (v : List ℕ) (e : M .Car) → φ (times M v e) ≡ times N v (φ e)
   linear-times v e = linear-run e (M .nil) v ∙ ap (λ (x : N .Car). run N (φ e) x v) linear-nil
 
@@ -172,7 +176,7 @@ module _ (M : Space) where
   X-linear : Linear M M X
   X-linear = record { on-add = X-add; on-X = λ a. refl }
 
-  -- k shifts go through sums
+  -- k shifts commute with sums
   pub pow-sum : (k : ℕ) (a b : Car) → pow M k (add a b) ≡ add (pow M k a) (pow M k b)
   unfolding pow
   pow-sum zero a b = refl
@@ -262,7 +266,7 @@ module _ (M : Space) where
       ∙ ap (λ (x : Car). add x (pow M A (times M c e))) (sym round)
       ∙ sym (pow-sum A (pow M (length c) (times M a e)) (times M c e)) ∙ ap (pow M A) (sym (times-append a c e))
 
-  -- where n shifts come back and no fewer do, the first n shifts differ
+  -- where n shifts give s again and no fewer do, the first n shifts differ
   pub one-turn : (n : ℕ) (c : Car) → pow M n c ≡ c → ((k : ℕ) → 0 < k → k < n → pow M k c ≡ c → ⊥)
       → (a b : ℕ) → a < b → b < n → pow M a c ≡ pow M b c → ⊥
   one-turn n c h fresh a b p q e =

@@ -1,7 +1,7 @@
 -- The n turns of a telegram leave different remainders by f, none of them 0, and `turnOf` finds the one.
 -- Assumes nothing.
-use Prim.Native.Nat.{ℕ, zero, suc, _+_, _-_, _<_, _≤_}
-use mathlib.Core.Path.{_≡_, refl, sym, ap, subst, subst₂, _∙_}
+use Prim.Native.Nat.{ℕ, zero, suc, _+_, _-_, _<_}
+use mathlib.Core.Path.{_≡_, refl, sym, ap, subst₂, _∙_}
 use mathlib.Core.Bool.{not}
 use mathlib.Core.List.{List, [], _∷_, _++_, append-assoc}
 use native.Mathlib.Numerals.{add-one}
@@ -40,7 +40,7 @@ never-is d t s o (suc k) (suc i) h l e =
     (ap (λ (r : Reg (suc d)). r .of) (pow-X M i s) ∙ e)
 
 module _ (F : Numbers) (A : Facts F) where
-  -- fewer than n shifts of g never come back
+  -- fewer than n shifts of g do not give g again
   fresh-is : (k : ℕ) → 0 < k → k < F .n → pow (modF F A) k (remF F A (gOf F)) ≡ remF F A (gOf F) → ⊥
   unfolding pow
   fresh-is zero p l e = absurd (omega arith)

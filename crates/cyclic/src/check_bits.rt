@@ -4,13 +4,11 @@ ghost use mathlib.Core.List.{_++_};
 ghost use Prim.Native.Nat.{_<_, _≤_, _^_, _/_, _%_};
 ghost use lib.Bits.{bitXor};
 ghost use lib.Dec.{T};
-ghost use lib.ListN.{length, drop, replicate};
+ghost use lib.ListN.{length, drop};
 ghost use Rattle.bits.specs.Bits.{allBits, numberOf, bitsOf};
-ghost use Rattle.formats.specs.Numbers.{numbersOf, fgOf};
-ghost use Rattle.formats.specs.Polynomial.{sum};
+ghost use Rattle.formats.specs.Numbers.{numbersOf};
 ghost use Rattle.formats.specs.Value.{valueOf};
-ghost use Rattle.cyclic.specs.Remainder.{remainderFrom};
-ghost use Rattle.cyclic.specs.Check.{checkBits, gPadded};
+ghost use Rattle.cyclic.specs.Check.{checkBits};
 use crate::remainder;
 use formats::format;
 use formats::format::Format;
@@ -26,28 +24,17 @@ fn plus(a: Register, b: Register) -> Register
     }
 }
 
-// The check bits, where the bits before these have left the register at start.
-pub fn check_bits_from(format: Format, start: Register, bits: &[u8]) -> Register
-    requires { ⌜ valueOf start < 2 ^ 85 ⌝ }
-    requires { ⌜ T (allBits (now bits)) ⌝ }
-    ensures { λ r. ⌜ valueOf r ≡ numberOf (sum (remainderFrom (drop 1 (fgOf (numbersOf format))) (bitsOf 85 (valueOf start)) (now (bits .entry) ++ replicate 85 0)) (gPadded (numbersOf format))) ⌝ }
-    ensures { λ r. ⌜ valueOf r < 2 ^ 85 ⌝ }
-{
-    let zeros = [0u8; 85];
-    let above = remainder::remainder_from_fg(format, start, bits);
-    let rest = remainder::remainder_from_fg(format, above, &zeros);
-    let g = format::g(format);
-    plus(rest, g)
-}
-
 // The check bits of the bits above them.
 pub fn check_bits(format: Format, bits: &[u8]) -> Register
     requires { ⌜ T (allBits (now bits)) ⌝ }
     ensures { λ r. ⌜ valueOf r ≡ numberOf (checkBits (numbersOf format) (now (bits .entry))) ⌝ }
     ensures { λ r. ⌜ valueOf r < 2 ^ 85 ⌝ }
 {
-    let start = Register::zero();
-    check_bits_from(format, start, bits)
+    let zeros = [0u8; 85];
+    let above = remainder::remainder_fg(format, bits);
+    let rest = remainder::remainder_from_fg(format, above, &zeros);
+    let g = format::g(format);
+    plus(rest, g)
 }
 
 // The coefficient of x^e.

@@ -13,7 +13,7 @@ use formats::format::Format;
 use formats::register::Register;
 
 // The register of a division by f*g, from start on.
-pub fn remainder_from_fg(format: Format, start: Register, bits: &[u8]) -> Register
+pub(crate) fn remainder_from_fg(format: Format, start: Register, bits: &[u8]) -> Register
     requires { ⌜ valueOf start < 2 ^ 85 ⌝ }
     requires { ⌜ T (allBits (now bits)) ⌝ }
     ensures { λ r. ⌜ valueOf r ≡ numberOf (remainderFrom (drop 1 (fgOf (numbersOf format))) (bitsOf 85 (valueOf start)) (now (bits .entry))) ⌝ }

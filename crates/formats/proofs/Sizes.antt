@@ -1,4 +1,4 @@
--- How the numbers of a format hang together (document 01, "The telegram, left to right"). Assumes nothing.
+-- The relations between the numbers of a format (document 01, "The telegram, left to right"). Assumes nothing.
 use Prim.Native.Nat.{_+_, _*_, _≤_}
 use mathlib.Core.Path.{_≡_, refl}
 use native.Mathlib.Omega.{arith}

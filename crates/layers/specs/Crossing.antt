@@ -1,4 +1,4 @@
--- How values that are no numbers cross to a caller in another language.
+-- How values that are no numbers are passed to and from another language.
 -- Assumes nothing.
 use Prim.Native.Nat.{ℕ, _/_, _%_, _^_}
 use mathlib.Core.Bool.{Bool, true, false}

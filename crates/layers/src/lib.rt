@@ -1,5 +1,5 @@
 // The layers' functions for a caller in another language. Each meets the definition that the function it calls meets.
-// A format crosses as `long`, and a register as two words, the high one first.
+// A format is passed as `long`, and a register as two words, the high one first.
 ghost use mathlib.Core.Path.{_≡_};
 ghost use mathlib.Core.List.{_++_};
 ghost use Prim.Native.Nat.{_+_, _/_, _<_, _≤_};

@@ -112,11 +112,13 @@ userBitsIn format w =
     let F = numbersOf format in
     userBitsOf F (telegramIn F (turnIn F w) w)
 
+-- what the window tells, and the user bits over the front of the output
+abbrev pub readOut : Format → List ℕ → List ℕ → Outcome ReadAnswer
+readOut format w out = outcome (Read (readingIn format w)) (userBitsIn format w ++ drop (numbersOf format .m) out)
+
+-- a window that is to be the format's
 unfoldable pub readAs : Format → List ℕ → List ℕ → Outcome ReadAnswer
-readAs format w out =
-    answerBy (λ (r : Refusal). outcome (Refused r) out)
-    (outcome (Read (readingIn format w)) (userBitsIn format w ++ drop (numbersOf format .m) out))
-    (verdict (readTable format (length out) w))
+readAs format w out = answerBy (λ (r : Refusal). outcome (Refused r) out) (readOut format w out) (verdict (readTable format (length out) w))
 
 -- any window
 unfoldable pub readOf : List ℕ → List ℕ → Outcome ReadAnswer

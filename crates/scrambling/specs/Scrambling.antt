@@ -26,7 +26,6 @@ shifted r = r * 2 % 2 ^ 32
 abbrev pub feedback : ℕ
 feedback = 2 ^ 31 + 2 ^ 30 + 2 ^ 29 + 2 ^ 27 + 2 ^ 25 + 2 ^ 0
 
--- x if the test holds, otherwise y
 -- the register r after the scrambled bit s: shifted, and, if s is 1, XORed with the feedback
 unfoldable pub nextState : ℕ → ℕ → ℕ
 nextState r s = cond (eqb s 1) (bitXor (shifted r) feedback) (shifted r)

@@ -1,15 +1,16 @@
 -- The telegram made from user bits, B and esb: n bits, and its fields are what it was made from. Assumes nothing.
-use Prim.Native.Nat.{ℕ, _+_, _-_, _*_, _%_, _≤_, _<_}
+use Prim.Native.Nat.{ℕ, _-_, _*_, _≤_, _<_}
 use mathlib.Core.Path.{_≡_, sym, ap, ap₂, _∙_}
 use mathlib.Core.List.{List, _++_, append-assoc}
 use native.Mathlib.Omega.{arith}
 use lib.Dec.{T}
 use lib.ListN.{length, take, drop, length-append}
-use lib.Seq.{take-at, drop-at, drop-drop}
-use Rattle.bits.specs.Bits.{allBits, numberOf, bitsOf}
+use lib.Seq.{take-at, drop-at}
+use Rattle.bits.specs.Bits.{allBits, bitsOf}
 use Rattle.bits.proofs.AllBits.{allBits-append, allBits-bitsOf}
 use Rattle.bits.proofs.Equal.{same-of}
-use Rattle.bits.proofs.Numbers.{length-bitsOf, numberOf-bitsOf}
+use Rattle.bits.proofs.Numbers.{length-bitsOf}
+use Rattle.bits.proofs.Parts.{front-is, rest-is, drop-from, front-number}
 use Rattle.formats.specs.Numbers.{Numbers, blocks}
 use Rattle.formats.proofs.Sizes.{Sizes}
 use Rattle.scrambling.specs.Scrambling.{scrambled, descrambled}
@@ -102,31 +103,23 @@ module _ (F : Numbers) (A : Facts F) (S : Sizes F) (u : List ℕ) (B esb : ℕ) 
   made-split = append-assoc (shapedData F u B) (settings B esb) (checkBits F (unchecked F u B esb))
 
   pub made-data : take (F .n - 110) (telegramOf F u B esb) ≡ shapedData F u B
-  made-data =
-      ap (take (F .n - 110)) made-split
-      ∙ take-at (shapedData F u B) (settings B esb ++ checkBits F (unchecked F u B esb)) (F .n - 110) (length-shapedData F S u B)
+  made-data = front-is (shapedData F u B) _ (telegramOf F u B esb) (F .n - 110) (length-shapedData F S u B) made-split
 
   pub made-last : drop (F .n - 110) (telegramOf F u B esb) ≡ settings B esb ++ checkBits F (unchecked F u B esb)
-  made-last =
-      ap (drop (F .n - 110)) made-split
-      ∙ drop-at (shapedData F u B) (settings B esb ++ checkBits F (unchecked F u B esb)) (F .n - 110) (length-shapedData F S u B)
+  made-last = rest-is (shapedData F u B) _ (telegramOf F u B esb) (F .n - 110) (length-shapedData F S u B) made-split
 
   -- from the scrambling bits on
   from-scrambling : drop (F .n - 107) (telegramOf F u B esb) ≡ bitsOf 12 B ++ (bitsOf 10 esb ++ checkBits F (unchecked F u B esb))
   unfolding settings
   from-scrambling =
-      let t = telegramOf F u B esb in
-      let place : F .n - 110 + 3 ≡ F .n - 107 = omega (arith, S .n-is) in
-      ap (λ (i : ℕ). drop i t) (sym place) ∙ sym (drop-drop 3 (F .n - 110) t) ∙ ap (drop 3) made-last
+      drop-from (F .n - 110) 3 (F .n - 107) (telegramOf F u B esb) (omega (arith, S .n-is)) ∙ ap (drop 3) made-last
       ∙ append-assoc (bitsOf 12 B) (bitsOf 10 esb) (checkBits F (unchecked F u B esb))
 
   -- from the extra shaping bits on
   from-shaping : drop (F .n - 95) (telegramOf F u B esb) ≡ bitsOf 10 esb ++ checkBits F (unchecked F u B esb)
   from-shaping =
       let t = telegramOf F u B esb in
-      let place : F .n - 107 + 12 ≡ F .n - 95 = omega (arith, S .n-is) in
-      ap (λ (i : ℕ). drop i t) (sym place) ∙ sym (drop-drop 12 (F .n - 107) t) ∙ ap (drop 12) from-scrambling
-      ∙ drop-at (bitsOf 12 B) (bitsOf 10 esb ++ checkBits F (unchecked F u B esb)) 12 (length-bitsOf 12 B)
+      drop-from (F .n - 107) 12 (F .n - 95) t (omega (arith, S .n-is)) ∙ rest-is (bitsOf 12 B) _ _ 12 (length-bitsOf 12 B) from-scrambling
 
   -- its fields
   pub control-made : controlOf F (telegramOf F u B esb) ≡ control
@@ -135,19 +128,11 @@ module _ (F : Numbers) (A : Facts F) (S : Sizes F) (u : List ℕ) (B esb : ℕ) 
 
   pub scrambling-made : B < 4096 → scramblingOf F (telegramOf F u B esb) ≡ B
   unfolding scramblingOf
-  scrambling-made h =
-      let whole : B % 4096 ≡ B = omega arith in
-      ap (λ (l : List ℕ). numberOf (take 12 l)) from-scrambling
-      ∙ ap numberOf (take-at (bitsOf 12 B) (bitsOf 10 esb ++ checkBits F (unchecked F u B esb)) 12 (length-bitsOf 12 B))
-      ∙ numberOf-bitsOf 12 B ∙ whole
+  scrambling-made h = front-number 12 B _ (drop (F .n - 107) (telegramOf F u B esb)) from-scrambling h
 
   pub shaping-made : esb < 1024 → shapingOf F (telegramOf F u B esb) ≡ esb
   unfolding shapingOf
-  shaping-made h =
-      let whole : esb % 1024 ≡ esb = omega arith in
-      ap (λ (l : List ℕ). numberOf (take 10 l)) from-shaping
-      ∙ ap numberOf (take-at (bitsOf 10 esb) (checkBits F (unchecked F u B esb)) 10 (length-bitsOf 10 esb))
-      ∙ numberOf-bitsOf 10 esb ∙ whole
+  shaping-made h = front-number 10 esb _ (drop (F .n - 95) (telegramOf F u B esb)) from-shaping h
 
   -- the words of the shaped data are in the table
   pub words-made : T (allWords (blocks F) (telegramOf F u B esb))

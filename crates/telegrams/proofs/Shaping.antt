@@ -1,6 +1,6 @@
 -- Shaping and its undoing: their lengths and bits, that the words of shaped bits are in the table, and that each undoes the other.
 -- Assumes nothing.
-use Prim.Native.Nat.{ℕ, _*_, _%_, _≤_}
+use Prim.Native.Nat.{ℕ, _*_, _≤_}
 use mathlib.Core.Path.{_≡_, sym, ap, subst, _∙_}
 use mathlib.Core.Bool.{true, _&&_}
 use mathlib.Core.List.{List, [], _++_, append-nil}
@@ -11,13 +11,21 @@ use lib.Seq.{take-all}
 use Rattle.bits.specs.Bits.{allBits, numberOf, bitsOf}
 use Rattle.bits.proofs.AllBits.{allBits-bitsOf}
 use Rattle.bits.proofs.Groups.{length-groups, groups-bits, groups-of-groups, every-group, groups-stay}
-use Rattle.bits.proofs.Numbers.{length-bitsOf, numberOf-bitsOf}
+use Rattle.bits.proofs.Numbers.{length-bitsOf, number-bits}
 use Rattle.bits.proofs.Parts.{front-below, front-bits}
 use Rattle.words.specs.declared.Lookup.{Lookup}
 use Rattle.words.specs.Words.{wordOf, lookupOf, isWord, numberIn}
 use Rattle.words.proofs.WordBits.{lookup-bits, isWord-word, word-number}
-use Rattle.telegrams.specs.Telegram.{wordOfBlock, shaped}
-use Rattle.telegrams.specs.Fields.{blockOfWord, allWords, unshaped}
+use Rattle.telegrams.specs.Telegram.{shaped}
+use Rattle.telegrams.specs.Fields.{allWords, unshaped}
+
+-- the word of a block
+abbrev pub wordOfBlock : List ℕ → List ℕ
+wordOfBlock block = bitsOf 11 (wordOf (numberOf block))
+
+-- the block of a word
+abbrev pub blockOfWord : List ℕ → List ℕ
+blockOfWord word = bitsOf 10 (numberIn (lookupOf (numberOf word)))
 
 -- ---- lengths and bits
 
@@ -66,8 +74,7 @@ word-stays : (b : List ℕ) → T (allBits b) → 11 ≤ length b → T (isWord 
 word-stays b bits eleven h =
     let i = numberIn (lookupOf (numberOf (take 11 b))) in
     let known = word-number (take 11 b) h in
-    let whole : i % 1024 ≡ i = omega (arith, known .0) in
-    ap (λ (n : ℕ). bitsOf 11 (wordOf n)) (numberOf-bitsOf 10 i ∙ whole) ∙ ap (bitsOf 11) (known .1) ∙ front-bits 11 b bits eleven
+    ap (λ (n : ℕ). bitsOf 11 (wordOf n)) (number-bits 10 i (known .0)) ∙ ap (bitsOf 11) (known .1) ∙ front-bits 11 b bits eleven
 
 pub shaped-unshaped : (k : ℕ) (b : List ℕ) → T (allBits b) → T (allWords k b) → 11 * k ≤ length b → shaped k (unshaped k b) ≡ take (11 * k) b
 shaped-unshaped k b bits words within =

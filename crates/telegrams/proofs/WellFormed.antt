@@ -7,13 +7,13 @@ use mathlib.Core.List.{List, _++_}
 use native.Mathlib.Omega.{arith}
 use lib.Dec.{T, eqb, eqb→eq, eqb-refl}
 use lib.ListN.{length, take, drop, length-drop, take-append-drop}
-use lib.Seq.{drop-drop, take-add}
+use lib.Seq.{take-add}
 use Rattle.bits.specs.Bits.{allBits, same}
 use Rattle.bits.proofs.AllBits.{allBits-drop}
 use Rattle.bits.proofs.And.{and-left, and-right, and-of}
 use Rattle.bits.proofs.Groups.{groups-add}
 use Rattle.bits.proofs.Equal.{same-equal, same-of}
-use Rattle.bits.proofs.Parts.{front-below, front-bits}
+use Rattle.bits.proofs.Parts.{drop-from, front-below, front-bits}
 use Rattle.bits.proofs.Tests.{tests-agree}
 use Rattle.formats.specs.Numbers.{Numbers, blocks}
 use Rattle.formats.proofs.Sizes.{Sizes}
@@ -110,17 +110,15 @@ module _ (F : Numbers) (S : Sizes F) (b : List ℕ) (h : WellFormed F b) where
   unfolding settings controlOf scramblingOf shapingOf
   own-settings =
       let l = drop (F .n - 110) b in
-      let third : F .n - 110 + 3 ≡ F .n - 107 = omega (arith, S .n-is) in
-      let fifteenth : F .n - 107 + 12 ≡ F .n - 95 = omega (arith, S .n-is) in
-      let l3 : drop 3 l ≡ drop (F .n - 107) b = drop-drop 3 (F .n - 110) b ∙ ap (λ (i : ℕ). drop i b) third in
-      let l15 : drop 12 (drop (F .n - 107) b) ≡ drop (F .n - 95) b = drop-drop 12 (F .n - 107) b ∙ ap (λ (i : ℕ). drop i b) fifteenth in
+      let l3 = drop-from (F .n - 110) 3 (F .n - 107) b (omega (arith, S .n-is)) in
+      let l15 = drop-from (F .n - 107) 12 (F .n - 95) b (omega (arith, S .n-is)) in
       let twelve : 12 ≤ length (drop (F .n - 107) b) = omega (arith, length-drop (F .n - 107) b, h .size, S .n-is) in
       let ten : 10 ≤ length (drop (F .n - 95) b) = omega (arith, length-drop (F .n - 95) b, h .size, S .n-is) in
       ap₂ _++_ (sym (h .control-is))
       (ap₂ _++_ (front-bits 12 (drop (F .n - 107) b) (allBits-drop (F .n - 107) b (h .bits)) twelve)
-      (front-bits 10 (drop (F .n - 95) b) (allBits-drop (F .n - 95) b (h .bits)) ten ∙ ap (take 10) (sym l15))
+      (front-bits 10 (drop (F .n - 95) b) (allBits-drop (F .n - 95) b (h .bits)) ten ∙ ap (take 10) l15)
       ∙ sym (take-add 12 10 (drop (F .n - 107) b))
-      ∙ ap (take 22) (sym l3))
+      ∙ ap (take 22) l3)
       ∙ sym (take-add 3 22 l)
 
   -- what stands before the check bits

@@ -1,5 +1,5 @@
 // A telegram's words taken back to the ten bits of their numbers, and those to the user bits (document 01, "Words" and
-// "Scrambling").
+// "Search, reading and place").
 ghost use mathlib.Core.Path.{_≡_};
 ghost use mathlib.Core.List.{_++_};
 ghost use Prim.Native.Nat.{_*_, _/_, _≤_};

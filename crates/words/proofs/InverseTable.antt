@@ -1,4 +1,4 @@
--- The inverse table, with which the code's ranks are compared: made from the table by one walk over the 2,048 words, since the
+-- The inverse table, with which the code's ranks are compared: made from the table in one pass over the 2,048 words, since the
 -- table rises; its entry at a word tells what looking the word up finds. Assumes nothing.
 use mathlib.Core.Path.{_≡_, refl, ap, sym, _∙_, subst}
 use mathlib.Core.Bool.{Bool, true, false, cond}

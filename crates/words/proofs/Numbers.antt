@@ -1,4 +1,4 @@
--- The number of a word, found by walking the table: it is the number whose word this is, and a word that is no entry has none.
+-- The number of a word, found by going through the table: it is the number whose word this is, and a word that is no entry has none.
 -- Assumes nothing.
 use mathlib.Core.Path.{_≡_, refl, ap, _∙_}
 use mathlib.Core.Bool.{Bool, true, false, cond}
@@ -68,10 +68,6 @@ entry i (x ∷ xs) w n e = go (entry (suc i) xs w n) (eqb x w) refl e
 pub lookup-word : (i : ℕ) → i < 1024 → lookupOf (wordOf i) ≡ Number i
 unfolding lookupOf wordOf
 lookup-word i h = found 0 0 table table-rises i (within i h) ∙ ap (λ (n : ℕ). Number n) (omega arith)
-
--- no word is that of two numbers
-pub words-differ : (i j : ℕ) → i < 1024 → j < 1024 → wordOf i ≡ wordOf j → i ≡ j
-words-differ i j p q e = cc (lookup-word i p, lookup-word j q)
 
 pub lookup-number : (w i : ℕ) → lookupOf w ≡ Number i → (i < 1024) × (wordOf i ≡ w)
 unfolding lookupOf wordOf

@@ -1,11 +1,10 @@
 -- The eleven bits of a word: its number, and whether the table has it. Assumes nothing.
 use mathlib.Core.Path.{_≡_, refl, sym, ap, subst, _∙_}
 use mathlib.Core.List.{List}
-use Prim.Native.Nat.{ℕ, _%_, _<_}
-use native.Mathlib.Omega.{arith}
+use Prim.Native.Nat.{ℕ, _<_}
 use lib.Dec.{T}
 use Rattle.bits.specs.Bits.{numberOf, bitsOf}
-use Rattle.bits.proofs.Numbers.{numberOf-bitsOf}
+use Rattle.bits.proofs.Numbers.{number-bits}
 use Rattle.words.specs.declared.Lookup.{Lookup}
 use Rattle.words.specs.declared.Lookup.the-variants.{Number, NotInTable}
 use Rattle.words.specs.Words.{wordOf, lookupOf, isNumber, isWord, numberIn}
@@ -14,9 +13,7 @@ use Rattle.words.proofs.Numbers.{lookup-word, lookup-number}
 
 -- those of the word of i
 pub lookup-bits : (i : ℕ) → i < 1024 → lookupOf (numberOf (bitsOf 11 (wordOf i))) ≡ Number i
-lookup-bits i h =
-    let whole : wordOf i % 2048 ≡ wordOf i = omega (arith, word-bits i h) in
-    ap lookupOf (numberOf-bitsOf 11 (wordOf i) ∙ whole) ∙ lookup-word i h
+lookup-bits i h = ap lookupOf (number-bits 11 (wordOf i) (word-bits i h)) ∙ lookup-word i h
 
 pub isWord-word : (i : ℕ) → i < 1024 → T (isWord (bitsOf 11 (wordOf i)))
 unfolding isWord

@@ -19,7 +19,7 @@ unfoldable pub lookupFrom : ℕ → List ℕ → ℕ → Lookup
 lookupFrom i [] w = NotInTable
 lookupFrom i (x ∷ xs) w = cond (eqb x w) (Number i) (lookupFrom (suc i) xs w)
 
--- the number of the word w, found by walking the table from the front
+-- the number of the word w, found by going through the table from the front
 unfoldable pub lookupOf : ℕ → Lookup
 lookupOf w = lookupFrom 0 table w
 

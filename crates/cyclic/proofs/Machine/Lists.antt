@@ -1,7 +1,7 @@
 -- Back from numbers to lists: a register that is the number of a remainder or of check bits has these as its bits.
 -- Assumes nothing.
 use mathlib.Core.Path.{_≡_, refl, sym, ap, ap₂, _∙_, subst₂}
-use mathlib.Core.List.{List, _++_, append-assoc}
+use mathlib.Core.List.{List, _++_}
 use Prim.Native.Nat.{ℕ, _-_, _^_, _<_}
 use native.Mathlib.Nat.{zero-mod}
 use lib.Bits.{bitXor}
@@ -11,17 +11,17 @@ use Rattle.bits.specs.Bits.{allBits, numberFrom, numberOf, bitsOf}
 use Rattle.bits.proofs.Numbers.{numberOf-below, numberOf-bitsOf, bitsOf-numberOf}
 use Rattle.formats.specs.declared.format.Format.{Format}
 use Rattle.formats.specs.declared.format.Format.the-variants.{Long, Short}
-use Rattle.formats.specs.Numbers.{numbersOf, gOf, fgOf}
+use Rattle.formats.specs.Numbers.{numbersOf, gOf}
 use Rattle.formats.specs.Polynomial.{polynomial, coefficientsBelow, coefficientOf, sum}
 use Rattle.cyclic.specs.Check.{gPadded, checkBits}
 use Rattle.cyclic.specs.Remainder.{remainder, remainderFrom}
 use Rattle.cyclic.proofs.Lists.{bits-sum, length-sum}
 use Rattle.cyclic.proofs.Registers.{Monic}
 use Rattle.cyclic.proofs.Quotients.{from-append}
-use Rattle.cyclic.proofs.Remainders.{bits-from, length-from, remainder-bits, length-remainder}
+use Rattle.cyclic.proofs.Remainders.{remainder-bits, length-remainder}
 use Rattle.cyclic.proofs.Formats.{factsOf}
 use Rattle.cyclic.proofs.Laws.{bits-padded, length-padded, bits-checkBits, length-checkBits}
-use Rattle.cyclic.proofs.Machine.Divisors.{zero-bits, length-rest}
+use Rattle.cyclic.proofs.Machine.Divisors.{zero-bits}
 use Rattle.cyclic.proofs.Machine.Sums.{value-sum}
 
 pub zeros-number : (k : ℕ) → numberOf (replicate k 0) ≡ 0
@@ -33,14 +33,6 @@ one-list k u v hu hv eu ev e = sym (bitsOf-numberOf k u hu eu) ∙ ap (bitsOf k)
 
 -- A divisor d of degree k.
 module _ {k : ℕ} {d : List ℕ} (m : Monic k d) where
-  -- a register of k bits after the bits of v: bits again, k of them, and those of its number
-  module _ (s v : List ℕ) (hs : T (allBits s)) (size : length s ≡ k) (hv : T (allBits v)) where
-    pub length-register : length (remainderFrom (drop 1 d) s v) ≡ k
-    length-register = length-from (drop 1 d) s v (size ∙ sym (length-rest m)) ∙ length-rest m
-
-    pub register-list : {y : ℕ} → y ≡ numberOf (remainderFrom (drop 1 d) s v) → bitsOf k y ≡ remainderFrom (drop 1 d) s v
-    register-list e = ap (bitsOf k) e ∙ bitsOf-numberOf k (remainderFrom (drop 1 d) s v) (bits-from (drop 1 d) s v hs hv) length-register
-
   -- a remainder is the bits of its number
   module _ (v : List ℕ) (hv : T (allBits v)) where
     pub remainder-list : {y : ℕ} → y ≡ numberOf (remainder d v) → bitsOf k y ≡ remainder d v
@@ -86,14 +78,3 @@ check-list x d e =
     let F = numbersOf x in
     let A = factsOf x in
     ap (bitsOf 85) e ∙ bitsOf-numberOf 85 (checkBits F d) (bits-checkBits F A d) (length-checkBits F A d)
-
--- the check bits of u and then d, from the register that u leaves
-pub check-after : (x : Format) (u d : List ℕ) → T (allBits u) → {y : ℕ} → y ≡ numberOf (remainder (fgOf (numbersOf x)) u)
-    → sum (remainderFrom (drop 1 (fgOf (numbersOf x))) (bitsOf 85 y) (d ++ replicate 85 0)) (gPadded (numbersOf x)) ≡ checkBits (numbersOf x) (u ++ d)
-unfolding checkBits
-check-after x u d hu e =
-    let F = numbersOf x in
-    let after = d ++ replicate 85 0 in
-    ap (λ (s : List ℕ). sum (remainderFrom (drop 1 (fgOf F)) s after) (gPadded F)) (remainder-list (factsOf x .fg-degree) u hu e)
-    ∙ ap (λ (r : List ℕ). sum r (gPadded F))
-    (sym (remainder-append (fgOf F) u after) ∙ ap (remainder (fgOf F)) (sym (append-assoc u d (replicate 85 0))))

@@ -6,9 +6,10 @@ use Prim.Native.Nat.{ℕ, _+_, _-_, _*_, _≤_}
 use native.Mathlib.Omega.{arith}
 use lib.Dec.{T, lit≤}
 use lib.ListN.{length, take, drop, length-append, take-append-drop}
-use lib.Seq.{drop-drop, take-append-le, length-take-le}
+use lib.Seq.{take-append-le, length-take-le}
 use Rattle.bits.specs.Bits.{allBits, numberOf, bitsOf}
 use Rattle.bits.proofs.AllBits.{allBits-append}
+use Rattle.bits.proofs.Parts.{front-is, rest-is, drop-from}
 use Rattle.formats.specs.declared.format.Format.{Format}
 use Rattle.formats.specs.declared.format.Format.the-variants.{Long, Short}
 use Rattle.formats.specs.Numbers.{Numbers, numbersOf, blocks}
@@ -20,7 +21,7 @@ use Rattle.cyclic.proofs.Laws.{Facts}
 use Rattle.cyclic.proofs.Machine.Lists.{check-list}
 use Rattle.telegrams.specs.Telegram.{shaped, shapedData, settings, unchecked, telegramOf}
 use Rattle.telegrams.proofs.Made.{length-settings, bits-settings, length-shapedData, length-made, made-data}
-use Rattle.telegrams.proofs.Buffers.Fronts.{lent, back, front-is, rest-is, front-more}
+use Rattle.telegrams.proofs.Buffers.Fronts.{lent, back, front-more}
 
 -- a block of either format fits the longer
 pub block-fits : (format : Format) → numbersOf format .m ≤ 830
@@ -41,15 +42,15 @@ module _ (F : Numbers) (S : Sizes F) (u : List ℕ) (B : ℕ) (old t : List ℕ)
   pub data-front : take (F .n - 110) t ≡ shapedData F u B
   unfolding shapedData
   data-front =
-      ap (λ (i : ℕ). take i t) (sym place) ∙ front-is (shaped (blocks F) (scrambled B (withSum (blocks F) u))) old t (11 * blocks F) size e
+      ap (λ (i : ℕ). take i t) (sym place) ∙ front-is (shaped (blocks F) (scrambled B (withSum (blocks F) u))) _ t (11 * blocks F) size e
 
   -- what stands after the telegram is as it was
   pub data-back : drop (F .n) t ≡ drop (F .n) old
   data-back =
       let after : 11 * blocks F + 110 ≡ F .n = omega (arith, S .n-is) in
-      ap (λ (i : ℕ). drop i t) (sym after) ∙ sym (drop-drop 110 (11 * blocks F) t)
-      ∙ ap (drop 110) (rest-is (shaped (blocks F) (scrambled B (withSum (blocks F) u))) old t (11 * blocks F) size e)
-      ∙ drop-drop 110 (11 * blocks F) old ∙ ap (λ (i : ℕ). drop i old) after
+      drop-from (11 * blocks F) 110 (F .n) t after
+      ∙ ap (drop 110) (rest-is (shaped (blocks F) (scrambled B (withSum (blocks F) u))) _ t (11 * blocks F) size e)
+      ∙ sym (drop-from (11 * blocks F) 110 (F .n) old after)
 
 -- ---- the settings after the first n - 110 bits of t, and the check bits after them
 
@@ -74,7 +75,7 @@ module _ (format : Format) (n : ℕ) (n-is : n ≡ numbersOf format .n) (t : Lis
         ∙ ap (λ (i : ℕ). (take (n - 110) t ++ settings B esb) ++ drop i t) place
 
     settled-front : take (n - 85) (back (n - 110) t left) ≡ take (n - 110) t ++ settings B esb
-    settled-front = front-is (take (n - 110) t ++ settings B esb) t (back (n - 110) t left) (n - 85) settled-size settled
+    settled-front = front-is (take (n - 110) t ++ settings B esb) _ (back (n - 110) t left) (n - 85) settled-size settled
 
     pub bits-before : T (allBits (take (numbersOf format .n - 110) t)) → T (allBits (take (n - 85) (back (n - 110) t left)))
     bits-before h = rw settled-front (settled-bits h)

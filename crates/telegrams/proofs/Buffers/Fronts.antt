@@ -5,10 +5,11 @@ use mathlib.Core.List.{List, _++_, append-nil, append-assoc}
 use Prim.Native.Nat.{ℕ, _+_, _-_, _*_}
 use native.Mathlib.Omega.{arith}
 use lib.ListN.{length, take, drop, length-drop, drop-of-length-le}
-use lib.Seq.{take-all, take-at, take-length, drop-at, drop-drop}
+use lib.Seq.{take-all, take-length, drop-drop}
 use borrow.Rule.Slice.PartMut.{putMid}
 use Rattle.bits.specs.Groups.{eachGroup}
 use Rattle.bits.proofs.Groups.{length-groups, groups-more}
+use Rattle.bits.proofs.Parts.{front-is, rest-is}
 
 -- what is lent of s from place a on, and s once the callee has left w there
 abbrev pub lent : ℕ → List ℕ → List ℕ
@@ -20,26 +21,18 @@ back a s w = putMid a (length s - a) s w
 pub lent-is : (a : ℕ) (s : List ℕ) → lent a s ≡ drop a s
 lent-is a s = take-all (length s - a) (drop a s) (omega (arith, length-drop a s))
 
--- p stands in front of s, and the rest is that of old
-module _ (p old s : List ℕ) (a : ℕ) (size : length p ≡ a) (e : s ≡ p ++ drop a old) where
-  pub front-is : take a s ≡ p
-  front-is = ap (take a) e ∙ take-at p (drop a old) a size
-
-  pub rest-is : drop a s ≡ drop a old
-  rest-is = ap (drop a) e ∙ drop-at p (drop a old) a size
-
--- all of p is copied there
+-- all of p is copied over the front of old
 pub copied-whole : (p old s : List ℕ) → s ≡ take (length p) p ++ drop (length p) old → s ≡ p ++ drop (length p) old
 copied-whole p old s e = e ∙ ap (λ (l : List ℕ). l ++ drop (length p) old) (take-length p)
 
--- the callee puts w in the place of the next k
+-- p stands in front of s, and the rest is that of old; the callee puts w in the place of the next k
 pub front-more : (p w old s left : List ℕ) (a k : ℕ) → length p ≡ a → s ≡ p ++ drop a old → left ≡ w ++ drop k (lent a s)
     → back a s left ≡ (p ++ w) ++ drop (a + k) old
 front-more p w old s left a k size e written =
     let none = drop-of-length-le (drop a s) {i = length s - a} (omega (arith, length-drop a s)) in
     let next : left ≡ w ++ drop (a + k) old =
-    written ∙ ap (λ (l : List ℕ). w ++ drop k l) (lent-is a s ∙ rest-is p old s a size e) ∙ ap (λ (l : List ℕ). w ++ l) (drop-drop k a old) in
-    ap₂ _++_ (front-is p old s a size e) (ap₂ _++_ next none ∙ append-nil (w ++ drop (a + k) old)) ∙ sym (append-assoc p w (drop (a + k) old))
+    written ∙ ap (λ (l : List ℕ). w ++ drop k l) (lent-is a s ∙ rest-is p (drop a old) s a size e) ∙ ap (λ (l : List ℕ). w ++ l) (drop-drop k a old) in
+    ap₂ _++_ (front-is p (drop a old) s a size e) (ap₂ _++_ next none ∙ append-nil (w ++ drop (a + k) old)) ∙ sym (append-assoc p w (drop (a + k) old))
 
 -- what f makes of j groups of s stands in front of out, and the callee puts what it makes of the next after it
 pub group-more : (f : List ℕ → List ℕ) (w v : ℕ) → ((group : List ℕ) → length (f group) ≡ v) → (j : ℕ) (s old out left next : List ℕ)

@@ -5,6 +5,7 @@ use mathlib.Core.List.{List}
 use Prim.Native.Nat.{ℕ, _-_, _*_}
 use native.Mathlib.Omega.{arith}
 use borrow.Author.Tests.{not-true, not-false}
+use Rattle.formats.specs.Numbers.{long}
 use Rattle.conditions.specs.Conditions.{fromTo, shiftedApart}
 use Rattle.conditions.proofs.Each.{Passed, passed-none, passed-more, passed-fails, passed-done}
 use Rattle.conditions.proofs.repeating.each_shifted_apart.Statement.{statement}
@@ -15,13 +16,13 @@ abbrev test : List ℕ → ℕ → Bool
 test b j = shiftedApart b (11 * j)
 
 abbrev Inv-loop : tie.InvT-loop
-Inv-loop b j₀ j = Passed (test b) (fromTo 0 92 (test b)) j 93
+Inv-loop b j₀ j = Passed (test b) (fromTo 0 (long .words - 1) (test b)) j (long .words)
 
 abbrev μ-loop : tie.MeasureT-loop
-μ-loop b j₀ j = 93 - j
+μ-loop b j₀ j = long .words - j
 
 loop-holds : tie.Need-loop-holds Inv-loop μ-loop
-loop-holds c = passed-none (test (c .before .args .b .now)) 0 93
+loop-holds c = passed-none (test (c .before .args .b .now)) 0 (long .words)
 
 mul-shifted-apart : tie.Need-mul-shifted-apart Inv-loop μ-loop
 mul-shifted-apart c = omega arith

@@ -6,6 +6,7 @@ use native.Mathlib.Nat.{mod-lt, mul-le-mul}
 use native.Mathlib.Omega.{arith}
 use lib.ListN.{length, getD, drop}
 use Rattle.bits.proofs.Writer.{Written, written-none, written-more, written-done}
+use Rattle.formats.specs.Numbers.{long}
 use Rattle.conditions.specs.Conditions.{thinnedBelow}
 use Rattle.conditions.proofs.thinned.thin.Statement.{statement}
 use Rattle.conditions.proofs.thinned.thin.Tie as tie
@@ -30,7 +31,7 @@ unfolding thinnedBelow
 none step b = refl
 
 -- a product of small numbers
-small : (j step : ℕ) → j ≤ 1023 → step ≤ 16 → j * step < 2 ^ 64
+small : (j step : ℕ) → j ≤ long .n → step ≤ 16 → j * step < 2 ^ 64
 small j step h k = omega (arith, mul-le-mul h k)
 
 loop-holds : tie.Need-loop-holds Inv-loop μ-loop

@@ -6,8 +6,9 @@ use native.Mathlib.Omega.{arith}
 use borrow.Author.Needs.{needs}
 use lib.Dec.{T}
 use lib.ListN.{length, take, drop}
-use lib.Seq.{take-at, length-take-le}
+use lib.Seq.{length-take-le}
 use Rattle.bits.specs.Bits.{allBits}
+use Rattle.bits.proofs.Parts.{front-is}
 use Rattle.formats.specs.Numbers.{numbersOf, blocks}
 use Rattle.formats.proofs.Sizes.{sizesOf}
 use Rattle.scrambling.specs.Scrambling.{scrambled}
@@ -48,8 +49,7 @@ summed : (c : tie.After-write-summed) →
 summed c =
     let start = c .before .before .before .before in
     let u = start .args .block .now in
-    ap (take (length u)) (c .write-summed .ensures)
-    ∙ take-at (withSum (length u / 10) u) _ (length u) (withSum-length (length u / 10) u (ten start))
+    front-is (withSum (length u / 10) u) _ _ (length u) (withSum-length (length u / 10) u (ten start)) (c .write-summed .ensures)
     ∙ ap (λ (m : ℕ). withSum (m / 10) u) (start .pre .1 .0)
 
 write-shaped-data-requires : tie.Need-write-shaped-data-requires

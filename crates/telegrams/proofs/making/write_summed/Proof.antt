@@ -4,18 +4,19 @@ use mathlib.Core.List.{List, _++_}
 use Prim.Native.Nat.{ℕ, _/_}
 use borrow.Author.Needs.{needs}
 use lib.ListN.{length, take, drop}
+use Rattle.bits.proofs.Parts.{front-is, rest-is}
 use Rattle.scrambling.specs.Sum.{withSum}
-use Rattle.telegrams.proofs.Buffers.Fronts.{front-is, rest-is, copied-whole}
+use Rattle.telegrams.proofs.Buffers.Fronts.{copied-whole}
 use Rattle.telegrams.proofs.making.write_summed.Statement.{statement}
 use Rattle.telegrams.proofs.making.write_summed.Tie as tie
 
 -- u is copied over the front of old, which becomes s
 module _ (u old s : List ℕ) (m : ℕ) (all : m ≡ length u) (e : s ≡ take (length u) u ++ drop (length u) old) where
   copied : take m s ≡ u
-  copied = rw all (front-is u old s (length u) refl (copied-whole u old s e))
+  copied = rw all (front-is u _ s (length u) refl (copied-whole u old s e))
 
   kept : drop m s ≡ drop (length u) old
-  kept = rw all (rest-is u old s (length u) refl (copied-whole u old s e))
+  kept = rw all (rest-is u _ s (length u) refl (copied-whole u old s e))
 
 copy-requires : tie.Need-copy-requires
 copy-requires c κs = search needs

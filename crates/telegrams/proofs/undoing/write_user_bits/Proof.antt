@@ -5,10 +5,10 @@ use Prim.Native.Nat.{ℕ, _/_}
 use native.Mathlib.Omega.{arith}
 use borrow.Author.Needs.{needs}
 use lib.ListN.{length, take}
+use Rattle.bits.proofs.Parts.{front-is, rest-is}
 use Rattle.scrambling.specs.Scrambling.{descrambled}
 use Rattle.scrambling.specs.Sum.{withoutSum}
 use Rattle.scrambling.proofs.Scrambled.{descrambled-length, descrambled-bits}
-use Rattle.telegrams.proofs.Buffers.Fronts.{front-is, rest-is}
 use Rattle.telegrams.proofs.undoing.write_user_bits.Statement.{statement}
 use Rattle.telegrams.proofs.undoing.write_user_bits.Tie as tie
 
@@ -21,7 +21,7 @@ front : (c : tie.After-descramble) →
     take (length (a .scrambled .now)) (c .descramble .last .1 .1 .0) ≡ descrambled (a .b) (a .scrambled .now)
 front c =
     let a = c .before .before .before .before .args in
-    front-is (descrambled (a .b) (a .scrambled .now)) (a .output .now) _ _ (descrambled-length (a .b) (a .scrambled .now)) (c .descramble .ensures)
+    front-is (descrambled (a .b) (a .scrambled .now)) _ _ _ (descrambled-length (a .b) (a .scrambled .now)) (c .descramble .ensures)
 
 slice-relend-prefix-remove-sum : tie.Need-slice-relend-prefix-remove-sum
 slice-relend-prefix-remove-sum c = search needs
@@ -52,7 +52,7 @@ returns c =
     ap₂ _++_
     (sum .remove-sum .ensures ∙ ap (λ (l : List ℕ). withoutSum (length l / 10) l) (front call)
     ∙ ap (λ (i : ℕ). withoutSum (i / 10) u) (descrambled-length (a .b) (a .scrambled .now)))
-    (rest-is u (a .output .now) _ _ (descrambled-length (a .b) (a .scrambled .now)) (call .descramble .ensures))
+    (rest-is u _ _ _ (descrambled-length (a .b) (a .scrambled .now)) (call .descramble .ensures))
 
 pub write-user-bits-spec : {M : Type 1} → statement M
 write-user-bits-spec =
