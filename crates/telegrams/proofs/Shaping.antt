@@ -16,8 +16,16 @@ use Rattle.bits.proofs.Parts.{front-below, front-bits}
 use Rattle.words.specs.declared.Lookup.{Lookup}
 use Rattle.words.specs.Words.{wordOf, lookupOf, isWord, numberIn}
 use Rattle.words.proofs.WordBits.{lookup-bits, isWord-word, word-number}
-use Rattle.telegrams.specs.Telegram.{wordOfBlock, shaped}
-use Rattle.telegrams.specs.Fields.{blockOfWord, allWords, unshaped}
+use Rattle.telegrams.specs.Telegram.{shaped}
+use Rattle.telegrams.specs.Fields.{allWords, unshaped}
+
+-- the word of a block
+abbrev pub wordOfBlock : List ℕ → List ℕ
+wordOfBlock block = bitsOf 11 (wordOf (numberOf block))
+
+-- the block of a word
+abbrev pub blockOfWord : List ℕ → List ℕ
+blockOfWord word = bitsOf 10 (numberIn (lookupOf (numberOf word)))
 
 -- ---- lengths and bits
 

@@ -27,13 +27,9 @@ scramblingOf F b = numberOf (take 12 (drop (F .n - 107) b))
 unfoldable pub shapingOf : Numbers → List ℕ → ℕ
 shapingOf F b = numberOf (take 10 (drop (F .n - 95) b))
 
--- the eleven bits of a word become the ten bits of its number
-abbrev pub blockOfWord : List ℕ → List ℕ
-blockOfWord word = bitsOf 10 (numberIn (lookupOf (numberOf word)))
-
--- each of the next k words of eleven bits becomes its block
+-- each of the next k words of eleven bits becomes the ten bits of its number
 abbrev pub unshaped : ℕ → List ℕ → List ℕ
-unshaped = eachGroup blockOfWord 11
+unshaped = eachGroup (λ word. bitsOf 10 (numberIn (lookupOf (numberOf word)))) 11
 
 -- the user bits
 unfoldable pub userBitsOf : Numbers → List ℕ → List ℕ

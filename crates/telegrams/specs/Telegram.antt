@@ -11,13 +11,9 @@ use Rattle.scrambling.specs.Scrambling.{scrambled}
 use Rattle.scrambling.specs.Sum.{withSum}
 use Rattle.cyclic.specs.Check.{checkBits}
 
--- the ten bits of a block, as a number i, become entry i of the table
-abbrev pub wordOfBlock : List ℕ → List ℕ
-wordOfBlock block = bitsOf 11 (wordOf (numberOf block))
-
--- each of the next k blocks of ten bits becomes its word
+-- each of the next k blocks of ten bits, as a number i, becomes entry i of the table
 abbrev pub shaped : ℕ → List ℕ → List ℕ
-shaped = eachGroup wordOfBlock 10
+shaped = eachGroup (λ block. bitsOf 11 (wordOf (numberOf block))) 10
 
 -- b(n-1) to b110: the shaped data
 unfoldable pub shapedData : Numbers → List ℕ → ℕ → List ℕ

@@ -8,8 +8,8 @@ use Rattle.formats.specs.Numbers.{Numbers, blocks}
 use Rattle.formats.proofs.Sizes.{Sizes}
 use Rattle.scrambling.specs.Scrambling.{descrambled}
 use Rattle.scrambling.specs.Sum.{withoutSum}
-use Rattle.telegrams.specs.Fields.{scramblingOf, blockOfWord, unshaped, userBitsOf}
-use Rattle.telegrams.proofs.Shaping.{length-block, length-unshaped}
+use Rattle.telegrams.specs.Fields.{scramblingOf, unshaped, userBitsOf}
+use Rattle.telegrams.proofs.Shaping.{blockOfWord, length-block, length-unshaped}
 
 -- u has the blocks of all k words of the telegram b in front; the first m bits are those of the shaped data
 module _ (F : Numbers) (S : Sizes F) (b u rest : List ℕ) (k m : ℕ) (k-is : k ≡ F .words) (m-is : m ≡ F .m) (e : u ≡ unshaped k b ++ rest) where

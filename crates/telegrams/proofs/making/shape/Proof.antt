@@ -11,8 +11,8 @@ use Rattle.bits.specs.Groups.{overGroups}
 use Rattle.bits.proofs.AllBits.{allBits-drop}
 use Rattle.bits.proofs.Parts.{front-below}
 use Rattle.words.specs.Words.{wordOf}
-use Rattle.telegrams.specs.Telegram.{wordOfBlock, shaped}
-use Rattle.telegrams.proofs.Shaping.{length-word}
+use Rattle.telegrams.specs.Telegram.{shaped}
+use Rattle.telegrams.proofs.Shaping.{wordOfBlock, length-word}
 use Rattle.telegrams.proofs.Buffers.Fronts.{lent-is, group-more}
 use Rattle.telegrams.proofs.making.shape.Statement.{statement}
 use Rattle.telegrams.proofs.making.shape.Tie as tie

@@ -13,7 +13,8 @@ use Rattle.formats.proofs.Sizes.{sizesOf}
 use Rattle.scrambling.specs.Scrambling.{scrambled}
 use Rattle.scrambling.proofs.Scrambled.{scrambled-length, scrambled-bits}
 use Rattle.cyclic.proofs.Lists.{bits-zeros}
-use Rattle.telegrams.specs.Telegram.{wordOfBlock, shaped}
+use Rattle.telegrams.specs.Telegram.{shaped}
+use Rattle.telegrams.proofs.Shaping.{wordOfBlock}
 use Rattle.telegrams.proofs.Buffers.Completed.{block-fits}
 use Rattle.telegrams.proofs.making.write_shaped_data.Statement.{statement}
 use Rattle.telegrams.proofs.making.write_shaped_data.Tie as tie

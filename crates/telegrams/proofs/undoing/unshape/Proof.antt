@@ -14,9 +14,9 @@ use Rattle.bits.proofs.Groups.{groups-next, groups-done}
 use Rattle.bits.proofs.Parts.{front-below}
 use Rattle.bits.proofs.Tests.{fails}
 use Rattle.words.specs.Words.{lookupOf, isNumber, isWord, numberIn}
-use Rattle.telegrams.specs.Fields.{blockOfWord, allWords, unshaped}
+use Rattle.telegrams.specs.Fields.{allWords, unshaped}
 use Rattle.telegrams.specs.Unshaped.{wholeIf}
-use Rattle.telegrams.proofs.Shaping.{length-block}
+use Rattle.telegrams.proofs.Shaping.{blockOfWord, length-block}
 use Rattle.telegrams.proofs.Buffers.Fronts.{lent-is, group-more}
 use Rattle.telegrams.proofs.undoing.unshape.Statement.{statement}
 use Rattle.telegrams.proofs.undoing.unshape.Tie as tie
