@@ -15,8 +15,8 @@ use Rattle.formats.specs.Numbers.{Numbers, blocks}
 use Rattle.formats.proofs.Sizes.{Sizes}
 use Rattle.scrambling.specs.Scrambling.{scrambled, descrambled}
 use Rattle.scrambling.specs.Sum.{withSum, withoutSum}
-use Rattle.scrambling.proofs.Scrambled.{scrambled-length, scrambled-bits, descrambled-length, descrambled-bits, descrambled-scrambled}
-use Rattle.scrambling.proofs.Summed.{withSum-length, withSum-bits, withoutSum-length, withoutSum-bits, withoutSum-withSum}
+use Rattle.scrambling.proofs.Scrambled.{scrambled-length, scrambled-bits, descrambled-length, descrambled-scrambled}
+use Rattle.scrambling.proofs.Summed.{withSum-length, withSum-bits, withoutSum-length, withoutSum-withSum}
 use Rattle.cyclic.specs.Check.{checkBits}
 use Rattle.cyclic.proofs.Laws.{Facts, bits-checkBits, length-checkBits}
 use Rattle.telegrams.specs.Telegram.{shapedData, control, settings, unchecked, telegramOf}
@@ -67,12 +67,6 @@ length-userBits F S b =
     let d = descrambled (scramblingOf F b) s in
     let size : length d ≡ F .m = descrambled-length (scramblingOf F b) s ∙ length-unshaped (blocks F) b ∙ sym (S .m-is) in
     withoutSum-length (blocks F) d (omega (arith, S .m-is, S .some)) ∙ size
-
-pub bits-userBits : (F : Numbers) (b : List ℕ) → T (allBits (userBitsOf F b))
-unfolding userBitsOf
-bits-userBits F b =
-    let s = unshaped (blocks F) b in
-    withoutSum-bits (blocks F) (descrambled (scramblingOf F b) s) (descrambled-bits (scramblingOf F b) s)
 
 -- ---- the telegram made from u, B and esb
 
@@ -159,15 +153,3 @@ module _ (F : Numbers) (A : Facts F) (S : Sizes F) (u : List ℕ) (B esb : ℕ) 
   checked-made =
       let t = telegramOf F u B esb in
       same-of (drop (F .n - 85) t) (checkBits F (take (F .n - 85) t)) (made-check ∙ ap (checkBits F) (sym made-front))
-
--- ---- what telegrams that are the same were made from
-
-module _ (F : Numbers) (A : Facts F) (S : Sizes F) (u v : List ℕ) (B C a c : ℕ) (e : telegramOf F u B a ≡ telegramOf F v C c) where
-  pub same-scrambling : B < 4096 → C < 4096 → B ≡ C
-  same-scrambling p q = sym (scrambling-made F A S u B a p) ∙ ap (scramblingOf F) e ∙ scrambling-made F A S v C c q
-
-  pub same-shaping : a < 1024 → c < 1024 → a ≡ c
-  same-shaping p q = sym (shaping-made F A S u B a p) ∙ ap (shapingOf F) e ∙ shaping-made F A S v C c q
-
-  pub same-userBits : T (allBits u) → length u ≡ F .m → B < 4096 → T (allBits v) → length v ≡ F .m → C < 4096 → u ≡ v
-  same-userBits hu lu p hv lv q = sym (userBits-made F A S u B a hu lu p) ∙ ap (userBitsOf F) e ∙ userBits-made F A S v C c hv lv q

@@ -53,16 +53,15 @@ parts F b h =
     let e = eqb (length b) (F .n) in
     let c = same (controlOf F b) control in
     let w = allWords (F .words) b in
-    let k = checked F b in
-    let front = and-left (e && allBits b) (c && (w && k)) h in
-    let back = and-right (e && allBits b) (c && (w && k)) h in
-    let last = and-right c (w && k) back in
+    let words = and-left (e && allBits b && c && w) (checked F b) h in
+    let control = and-left (e && allBits b && c) w words in
+    let bits = and-left (e && allBits b) c control in
     record {
-      size = eqb→eq (length b) (F .n) (and-left e (allBits b) front);
-      bits = and-right e (allBits b) front;
-      control-is = same-equal (controlOf F b) control (and-left c (w && k) back);
-      all-words = and-left w k last;
-      check = and-right w k last;
+      size = eqb→eq (length b) (F .n) (and-left e (allBits b) bits);
+      bits = and-right e (allBits b) bits;
+      control-is = same-equal _ _ (and-right (e && allBits b) c control);
+      all-words = and-right (e && allBits b && c) w words;
+      check = and-right (e && allBits b && c && w) (checked F b) h;
     }
 
 pub from-parts : (F : Numbers) (b : List ℕ) → WellFormed F b → T (wellFormed F b)
@@ -71,10 +70,12 @@ from-parts F b p =
     let e = eqb (length b) (F .n) in
     let c = same (controlOf F b) control in
     let w = allWords (F .words) b in
-    let k = checked F b in
     let sized : T e = rw (p .size) (eqb-refl (F .n)) in
-    and-of (e && allBits b) (c && (w && k)) (and-of e (allBits b) sized (p .bits))
-    (and-of c (w && k) (same-of (controlOf F b) control (p .control-is)) (and-of w k (p .all-words) (p .check)))
+    and-of (e && allBits b && c && w) (checked F b)
+    (and-of (e && allBits b && c) w
+    (and-of (e && allBits b) c (and-of e (allBits b) sized (p .bits)) (same-of (controlOf F b) control (p .control-is)))
+    (p .all-words))
+    (p .check)
 
 -- ---- the words are those of the shaped data and the last ten
 
@@ -135,11 +136,6 @@ module _ (F : Numbers) (S : Sizes F) (b : List ℕ) (h : WellFormed F b) where
       sym (take-append-drop i b)
       ∙ ap (λ (l : List ℕ). take i b ++ l) (same-equal (drop i b) (checkBits F (take i b)) (h .check))
       ∙ ap (λ (d : List ℕ). d ++ checkBits F d) (sym own-unchecked)
-
--- the same from the test
-pub test-remade : (F : Numbers) → Sizes F → (b : List ℕ) → T (wellFormed F b)
-    → b ≡ telegramOf F (userBitsOf F b) (scramblingOf F b) (shapingOf F b)
-test-remade F S b h = remade F S b (parts F b h)
 
 -- ---- a made telegram is well-formed if its last ten words are in the table
 

@@ -46,7 +46,4 @@ checked F b = same (drop (F .n - 85) b) (checkBits F (take (F .n - 85) b))
 -- n bits; control 0, 0, 1; every word in the table, the last ten too; the check bits
 unfoldable pub wellFormed : Numbers → List ℕ → Bool
 wellFormed F b =
-    eqb (length b) (F .n) && allBits b
-    && (same (controlOf F b) control
-    && (allWords (F .words) b
-    && checked F b))
+    eqb (length b) (F .n) && allBits b && same (controlOf F b) control && allWords (F .words) b && checked F b

@@ -1,12 +1,12 @@
 // The fields of a telegram (document 01, "The telegram, left to right").
 ghost use mathlib.Core.Path.{_≡_};
-ghost use Prim.Native.Nat.{_*_, _-_, _≤_};
+ghost use Prim.Native.Nat.{_*_, _≤_};
 ghost use lib.Dec.{T};
-ghost use lib.ListN.{length, take, drop};
-ghost use Rattle.bits.specs.Bits.{allBits, same, numberOf};
+ghost use lib.ListN.{length};
+ghost use Rattle.bits.specs.Bits.{allBits, same};
 ghost use Rattle.formats.specs.Numbers.{numbersOf};
 ghost use Rattle.telegrams.specs.Telegram.{control};
-ghost use Rattle.telegrams.specs.Fields.{controlOf, scramblingOf, shapingOf, allWords};
+ghost use Rattle.telegrams.specs.Fields.{controlOf, scramblingOf, allWords};
 use formats::format;
 use formats::format::Format;
 
@@ -41,31 +41,12 @@ pub fn has_control(format: Format, telegram: &[u8]) -> bool
     bits::same(&telegram[at..at + 3], &control)
 }
 
-// The number of the k bits from b(p-1) on.
-fn field(format: Format, telegram: &[u8], p: usize, k: usize) -> u16
-    requires { ⌜ T (allBits (now telegram)) ⌝ }
-    requires { ⌜ numbersOf format .n ≤ length (now telegram) ⌝ }
-    requires { ⌜ (p ≤ 110) × ((k ≤ p) × (k ≤ 16)) ⌝ }
-    ensures { λ r. ⌜ r ≡ numberOf (take k (drop (numbersOf format .n - p) (now (telegram .entry)))) ⌝ }
-{
-    let n = format::telegram_bits(format);
-    bits::number(telegram, n - p, k) as u16
-}
-
 // The scrambling bits, b106 to b95, as a number.
 pub fn scrambling_bits(format: Format, telegram: &[u8]) -> u16
     requires { ⌜ T (allBits (now telegram)) ⌝ }
     requires { ⌜ numbersOf format .n ≤ length (now telegram) ⌝ }
     ensures { λ r. ⌜ r ≡ scramblingOf (numbersOf format) (now (telegram .entry)) ⌝ }
 {
-    field(format, telegram, 107, 12)
-}
-
-// The extra shaping bits, b94 to b85, as a number.
-pub fn shaping_bits(format: Format, telegram: &[u8]) -> u16
-    requires { ⌜ T (allBits (now telegram)) ⌝ }
-    requires { ⌜ numbersOf format .n ≤ length (now telegram) ⌝ }
-    ensures { λ r. ⌜ r ≡ shapingOf (numbersOf format) (now (telegram .entry)) ⌝ }
-{
-    field(format, telegram, 95, 10)
+    let n = format::telegram_bits(format);
+    bits::number(telegram, n - 107, 12) as u16
 }

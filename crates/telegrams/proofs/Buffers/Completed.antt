@@ -12,7 +12,7 @@ use Rattle.bits.proofs.AllBits.{allBits-append}
 use Rattle.bits.proofs.Parts.{front-is, rest-is, drop-from}
 use Rattle.formats.specs.declared.format.Format.{Format}
 use Rattle.formats.specs.declared.format.Format.the-variants.{Long, Short}
-use Rattle.formats.specs.Numbers.{Numbers, numbersOf, blocks}
+use Rattle.formats.specs.Numbers.{Numbers, long, numbersOf, blocks}
 use Rattle.formats.proofs.Sizes.{Sizes, sizesOf}
 use Rattle.scrambling.specs.Scrambling.{scrambled}
 use Rattle.scrambling.specs.Sum.{withSum}
@@ -24,7 +24,7 @@ use Rattle.telegrams.proofs.Made.{length-settings, bits-settings, lengt
 use Rattle.telegrams.proofs.Buffers.Fronts.{lent, back, front-more}
 
 -- a block of either format fits the longer
-pub block-fits : (format : Format) → numbersOf format .m ≤ 830
+pub block-fits : (format : Format) → numbersOf format .m ≤ long .m
 block-fits Long = lit≤ tt
 block-fits Short = lit≤ tt
 

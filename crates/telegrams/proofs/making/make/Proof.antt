@@ -9,7 +9,7 @@ use lib.ListN.{length, take, drop}
 use lib.Seq.{length-take-le}
 use Rattle.bits.specs.Bits.{allBits}
 use Rattle.bits.proofs.Parts.{front-is}
-use Rattle.formats.specs.Numbers.{numbersOf, blocks}
+use Rattle.formats.specs.Numbers.{long, numbersOf, blocks}
 use Rattle.formats.proofs.Sizes.{sizesOf}
 use Rattle.scrambling.specs.Scrambling.{scrambled}
 use Rattle.scrambling.specs.Sum.{withSum}
@@ -25,7 +25,7 @@ module _ (c : tie.Start) where
   ten : 10 ≤ length (c .args .block .now)
   ten = omega (arith, sizesOf (c .args .format))
 
-  fits : length (c .args .block .now) ≤ 830
+  fits : length (c .args .block .now) ≤ long .m
   fits = omega (arith, block-fits (c .args .format))
 
 slice-aggregate-write-summed : tie.Need-slice-aggregate-write-summed

@@ -8,6 +8,7 @@ use borrow.Author.Needs.{needs}
 use lib.ListN.{length, drop, replicate}
 use Rattle.bits.proofs.AllBits.{allBits-append, allBits-drop}
 use Rattle.bits.proofs.Groups.{groups-front}
+use Rattle.formats.specs.Numbers.{long}
 use Rattle.formats.proofs.Sizes.{sizesOf}
 use Rattle.scrambling.specs.Scrambling.{scrambled}
 use Rattle.scrambling.proofs.Scrambled.{scrambled-length, scrambled-bits}
@@ -20,7 +21,7 @@ use Rattle.telegrams.proofs.making.write_shaped_data.Tie as tie
 
 -- the array that the scrambled bits go into
 abbrev zeros : List ℕ
-zeros = replicate 830 0
+zeros = replicate (long .m) 0
 
 slice-aggregate-scramble : tie.Need-slice-aggregate-scramble
 slice-aggregate-scramble c = search needs
@@ -39,7 +40,7 @@ shape-requires c κs =
     let start = call .before .before .before .before in
     let a = start .args in
     let v = a .summed .now in
-    let rest = allBits-drop (length v) zeros (bits-zeros 830) in (
+    let rest = allBits-drop (length v) zeros (bits-zeros (long .m)) in (
       rw (call .scramble .ensures) (allBits-append (scrambled (a .b) v) (drop (length v) zeros) (scrambled-bits (a .b) v) rest),
       (omega (arith, block-fits (a .format)), omega (arith, sizesOf (a .format) .n-is)),
     )
