@@ -1,6 +1,6 @@
 -- A window that is cut from a well-formed telegram going round, upright or flipped, is accepted, and tells what that telegram carries.
 -- Assumes nothing.
-use mathlib.Core.Path.{_≡_, refl, sym, ap, ap₂, _∙_}
+use mathlib.Core.Path.{_≡_, refl, sym, ap, _∙_}
 use mathlib.Core.Bool.{Bool, true, false}
 use mathlib.Core.List.{List}
 use Prim.Native.Nat.{ℕ, _+_, _-_, _<_}
@@ -16,7 +16,6 @@ use Rattle.bits.proofs.Tests.{is-true}
 use Rattle.formats.specs.declared.format.Format.{Format}
 use Rattle.formats.specs.Numbers.{Numbers, numbersOf, windowBits, fOf, gOf, fgOf}
 use Rattle.formats.proofs.Sizes.{Sizes, sizesOf}
-use Rattle.cyclic.specs.declared.Turn.{Turn}
 use Rattle.cyclic.specs.declared.Turn.the-variants.{At}
 use Rattle.cyclic.specs.Remainder.{remainder}
 use Rattle.cyclic.specs.Check.{gPadded, turned, turnOf, divisible}
@@ -27,8 +26,8 @@ use Rattle.telegrams.specs.Fields.{controlOf, scramblingOf, allWords, userBitsO
 use Rattle.telegrams.proofs.Checked.{checked-remainder}
 use Rattle.telegrams.proofs.WellFormed.{parts}
 use Rattle.reader.specs.declared.Reading.{Reading}
-use Rattle.reader.specs.Windows.{oriented, cut}
-use Rattle.reader.specs.Reads.{endsAgree, turnFound, isTurn, whichTurn, turnIn, isFlipped, turnedBack, telegramIn, readingOf, readingIn, userBitsIn, readsAs}
+use Rattle.reader.specs.Windows.{oriented}
+use Rattle.reader.specs.Reads.{endsAgree, turnFound, isTurn, turnIn, isFlipped, turnedBack, telegramIn, readingOf, readingIn, userBitsIn, readsAs}
 use Rattle.reader.specs.CutFrom.{CutFrom}
 use Rattle.reader.proofs.Windows.{length-oriented, bits-oriented, oriented-twice, cut-oriented, ring-front, ring-ends}
 use Rattle.reader.proofs.Accepted.{reads-passed}

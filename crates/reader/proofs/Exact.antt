@@ -3,7 +3,6 @@
 use mathlib.Core.Path.{_≡_, refl, sym, ap, ap₂, _∙_}
 use mathlib.Core.Bool.{Bool}
 use mathlib.Core.List.{List, _++_}
-use mathlib.Core.Logic.{_⊎_, inl, inr}
 use Prim.Native.Nat.{ℕ, _≤_}
 use native.Mathlib.Omega.{arith}
 use lib.ListN.{length, take, drop, length-append}
@@ -22,7 +21,7 @@ use Rattle.telegrams.proofs.Made.{length-userBits}
 use Rattle.reader.specs.declared.Reading.{Reading}
 use Rattle.reader.specs.declared.ReadAnswer.{ReadAnswer}
 use Rattle.reader.specs.declared.ReadAnswer.the-variants.{Read, Refused}
-use Rattle.reader.specs.Reads.{formatOf, turnIn, telegramIn, readTable, readingIn, userBitsIn, readAs, readOf, readsAs}
+use Rattle.reader.specs.Reads.{formatOf, turnIn, telegramIn, readTable, userBitsIn, readAs, readOf}
 use Rattle.reader.specs.CutFrom.{CutFrom}
 use Rattle.reader.specs.ReadsExactly.{gaveBlock, ReadsExactly}
 use Rattle.reader.proofs.Steps.{decided, any-window, read-as, rises}

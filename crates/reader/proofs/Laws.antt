@@ -1,13 +1,13 @@
 -- What reading answers, for the crates that call it: none has to open its definition. Assumes nothing.
 use Prim.Native.Nat.{ℕ, _≤_, _<_}
 use mathlib.Core.Path.{_≡_, refl, sym, ap, subst, _∙_}
-use mathlib.Core.Bool.{Bool, true, false}
+use mathlib.Core.Bool.{false}
 use mathlib.Core.List.{List, _++_}
 use mathlib.Core.Logic.{_⊎_, inl, inr}
 use lib.Dec.{T}
 use lib.ListN.{length, drop}
 use Rattle.bits.specs.Bits.{allBits}
-use Rattle.bits.proofs.Tests.{clash, holds, fails, is-true, is-false}
+use Rattle.bits.proofs.Tests.{clash, holds, fails, is-false}
 use Rattle.formats.specs.declared.format.Format.{Format}
 use Rattle.formats.specs.Numbers.{numbersOf, windowBits}
 use Rattle.refusals.specs.declared.Refusal.{Refusal}
@@ -75,7 +75,7 @@ module _ (format : Format) (w out : List ℕ) where
       ((r : Refusal) × (readAs format w out ≡ outcome (Refused r) out))
       ⊎ (T (readsAs format w) × (numbersOf format .m ≤ length out) × (readAs format w out ≡ readOut format w out))
 
-  pub read-or-refused : Refused⊎Read
+  read-or-refused : Refused⊎Read
   read-or-refused = go (verdict (readTable format (length out) w)) refl
     where
       go : (v : Verdict Refusal) → verdict (readTable format (length out) w) ≡ v → Refused⊎Read

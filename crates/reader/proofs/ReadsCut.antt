@@ -1,7 +1,6 @@
 -- A window that is accepted is cut from a well-formed telegram going round, at the turn and the way up that it tells. Assumes nothing.
 use mathlib.Core.Path.{_≡_, refl, sym, ap, _∙_}
 use mathlib.Core.List.{List}
-use mathlib.Core.Bool.{Bool}
 use Prim.Native.Nat.{ℕ, _≤_, _<_}
 use native.Mathlib.Omega.{arith}
 use lib.Dec.{T, lit≤}
@@ -26,7 +25,7 @@ use Rattle.telegrams.proofs.WellFormed.{from-parts}
 use Rattle.reader.specs.Windows.{oriented, cut}
 use Rattle.reader.specs.Reads.{endsAgree, turnIn, isFlipped, turnedBack, telegramIn, readingOf, readingIn, userBitsIn, readsAs}
 use Rattle.reader.specs.CutFrom.{CutFrom}
-use Rattle.reader.proofs.Windows.{length-oriented, oriented-twice, cut-oriented, window-of}
+use Rattle.reader.proofs.Windows.{oriented-twice, cut-oriented, window-of}
 use Rattle.reader.proofs.Accepted.{Passed, reads-passed}
 use Rattle.reader.proofs.Turns.{turn-leaves}
 use Rattle.reader.proofs.CutReads.{oriented-fg}

@@ -1,7 +1,7 @@
 -- The turn of a window: where there is one it is below n and has the remainder of the first n bits by f, and where there is none no turn has
 -- it (document 01, refusal 7). Assumes nothing.
 use Prim.Native.Nat.{ℕ, _<_}
-use mathlib.Core.Path.{_≡_, refl, sym, ap, _∙_}
+use mathlib.Core.Path.{_≡_, refl}
 use mathlib.Core.Bool.{true, not}
 use mathlib.Core.List.{List}
 use mathlib.Core.Logic.{_↔_}

@@ -12,7 +12,7 @@ use Rattle.formats.specs.Numbers.{Numbers, short, numbersOf, windowBits, format
 use Rattle.refusals.specs.declared.Refusal.{Refusal}
 use Rattle.refusals.specs.declared.Refusal.the-variants.{Length, NotBit, OutputShort, EndsDiffer, NotDivisible, NoTurn, Control, NotWord}
 use Rattle.refusals.specs.Refused.{refusalNumber}
-use Rattle.refusals.specs.Table.{Row, _when_, Verdict, verdict, accepts, answerBy}
+use Rattle.refusals.specs.Table.{Row, _when_, verdict, accepts, answerBy}
 use Rattle.refusals.specs.Outcome.{Outcome, outcome}
 use Rattle.refusals.specs.AnswerValues.{formatNumber, flippedNumber}
 use Rattle.cyclic.specs.declared.Turn.{Turn}

@@ -1,14 +1,13 @@
 -- What reading a window means (the request, demands 1 and 2; document 01, "When the bench says no").
 -- Assumes nothing.
-use Prim.Native.Nat.{ℕ, _≤_, _<_}
+use Prim.Native.Nat.{ℕ, _≤_}
 use mathlib.Core.Bool.{Bool}
 use mathlib.Core.Path.{_≡_}
 use mathlib.Core.List.{List, _++_}
 use mathlib.Core.Logic.{_↔_}
-use lib.Dec.{T}
-use lib.ListN.{length, take, drop}
+use lib.ListN.{length, drop}
 use Rattle.formats.specs.declared.format.Format.{Format}
-use Rattle.formats.specs.Numbers.{numbersOf, windowBits, fOf}
+use Rattle.formats.specs.Numbers.{numbersOf, windowBits}
 use Rattle.refusals.specs.declared.Refusal.{Refusal}
 use Rattle.refusals.specs.Refused.{refusalNumber}
 use Rattle.refusals.specs.Table.{RefusesBy}

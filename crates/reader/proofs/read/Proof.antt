@@ -8,7 +8,7 @@ use Rattle.bits.specs.Bits.{allBits}
 use Rattle.bits.proofs.Tests.{holds}
 use Rattle.formats.specs.declared.format.Format.{Format}
 use Rattle.formats.specs.Numbers.{numbersOf, windowBits}
-use Rattle.reader.specs.Reads.{formatOf, readAs, readOf}
+use Rattle.reader.specs.Reads.{readAs, readOf}
 use Rattle.reader.proofs.Steps.{length-refused, bits-refused}
 use Rattle.reader.proofs.read.Statement.{statement}
 use Rattle.reader.proofs.read.Tie as tie

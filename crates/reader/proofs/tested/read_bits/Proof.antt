@@ -10,7 +10,7 @@ use lib.Seq.{length-take-le}
 use Rattle.bits.specs.Bits.{allBits}
 use Rattle.bits.proofs.AllBits.{allBits-take}
 use Rattle.bits.proofs.Tests.{is-true}
-use Rattle.formats.specs.Numbers.{numbersOf, windowBits, fOf}
+use Rattle.formats.specs.Numbers.{numbersOf, fOf}
 use Rattle.cyclic.specs.Remainder.{remainder}
 use Rattle.cyclic.specs.Check.{turnOf, divisible}
 use Rattle.cyclic.proofs.Formats.{factsOf}
