@@ -1,15 +1,19 @@
--- Demand 1 holds: encode's part by `EncodeExact`, read's by `ReadExact`. Assumes nothing.
+-- Demand 1 holds, by what each call's crate proves of it. Assumes nothing.
+use Rattle.encoder.proofs.Exact.{encodes}
+use Rattle.checker.proofs.Exact.{checks}
+use Rattle.reader.proofs.Exact.{reads-exactly}
+use Rattle.captures.proofs.Exact.{searches}
 use Rattle.demands.specs.Demand1.{Demand1}
-use Rattle.demands.proofs.EncodeExact.{encode-refuses, encode-keeps, encode-writes}
-use Rattle.demands.proofs.ReadExact.{read-refuses, read-keeps, read-writes}
 
 pub demand1 : Demand1
 demand1 =
     record {
-      encodeRefuses = encode-refuses;
-      readRefuses = read-refuses;
-      encodeKeeps = encode-keeps;
-      readKeeps = read-keeps;
-      encodeWrites = encode-writes;
-      readWrites = read-writes;
+      encodeRefuses = λ u out. encodes u out .refuses;
+      checkRefuses = λ b. checks b .refuses;
+      readRefuses = λ w out. reads-exactly w out .refuses;
+      searchRefuses = λ s. searches s .refuses;
+      encodeKeeps = λ u out. encodes u out .keeps;
+      readKeeps = λ w out. reads-exactly w out .keeps;
+      encodeWrites = λ u out. encodes u out .writes;
+      readWrites = λ w out. reads-exactly w out .writes;
     }

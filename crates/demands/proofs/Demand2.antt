@@ -1,14 +1,14 @@
--- Demand 2 holds: the encoder's part by `Encoder`, the reader's by `Reader`. Assumes nothing.
+-- Demand 2 holds, by what the crates of encode and read prove of them. Assumes nothing.
+use Rattle.encoder.proofs.Exact.{encodes}
+use Rattle.reader.proofs.Exact.{reads-exactly}
 use Rattle.demands.specs.Demand2.{Demand2}
-use Rattle.demands.proofs.Encoder.{answers-first, answers-none, answers-one}
-use Rattle.demands.proofs.Reader.{accepts-cut, reads-cut}
 
 pub demand2 : Demand2
 demand2 =
     record {
-      givesFirst = answers-first;
-      saysNone = answers-none;
-      firstOrNone = answers-one;
-      accepts = accepts-cut;
-      gives = reads-cut;
+      givesFirst = λ format u out. encodes u out .givesFirst format;
+      saysNone = λ format u out. encodes u out .saysNone format;
+      firstOrNone = λ format u out. encodes u out .firstOrNone format;
+      accepts = λ format w out. reads-exactly w out .accepts format;
+      gives = λ format w out. reads-exactly w out .gives format;
     }

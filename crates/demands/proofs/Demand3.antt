@@ -1,13 +1,13 @@
 -- Demand 3 (document 01, "Demand 3's windows"): every undamaged window of a telegram that encode wrote reads back to its block and its
 -- turn, none comes from two blocks, a short window of a long telegram is refused with up to 14 bits changed, and so is an undamaged long
 -- window of a short one. Assumes nothing.
-use mathlib.Core.Path.{_≡_, refl, sym, ap, _∙_}
+use mathlib.Core.Path.{_≡_, refl, sym, ap, subst⁻¹, _∙_}
 use mathlib.Core.Bool.{Bool, true, false}
 use mathlib.Core.List.{List}
 use Prim.Native.Nat.{ℕ, _≤_, _<_}
 use native.Mathlib.Omega.{arith}
 use lib.Dec.{T}
-use lib.ListN.{length, take, drop, replicate, length-replicate}
+use lib.ListN.{length, take, drop}
 use Rattle.bits.specs.Bits.{allBits, around}
 use Rattle.bits.specs.Differences.{differences}
 use Rattle.bits.proofs.Equal.{other-same}
@@ -15,26 +15,25 @@ use Rattle.bits.proofs.Ring.{length-around, allBits-around}
 use Rattle.bits.proofs.Tests.{is-true}
 use Rattle.formats.specs.declared.format.Format.{Format}
 use Rattle.formats.specs.declared.format.Format.the-variants.{Long, Short}
-use Rattle.formats.specs.declared.refusal.Refusal.the-variants.{OutputShort, EndsDiffer, NoTurn}
 use Rattle.formats.specs.Numbers.{numbersOf, windowBits, long, short}
-use Rattle.formats.specs.Outcome.{Outcome}
+use Rattle.refusals.specs.declared.Refusal.the-variants.{OutputShort, EndsDiffer, NoTurn}
 use Rattle.telegrams.proofs.WellFormed.{parts}
 use Rattle.conditions.specs.Conditions.{notRepeating}
+use Rattle.conditions.proofs.Proper.{proper-parts}
 use Rattle.encoder.specs.Encoding.{encodeOf}
-use Rattle.reader.specs.declared.Reading.{Reading}
-use Rattle.reader.specs.declared.ReadAnswer.{ReadAnswer}
-use Rattle.reader.specs.declared.ReadAnswer.the-variants.{Read}
+use Rattle.encoder.specs.FirstPair.{FirstProper}
+use Rattle.encoder.specs.Encodes.{wrotePair}
+use Rattle.encoder.proofs.FirstOrNone.{first-answered}
 use Rattle.reader.specs.Windows.{oriented, cut}
+use Rattle.reader.specs.CutFrom.{CutFrom}
 use Rattle.reader.specs.Reads.{endsAgree, readAs, readOf}
+use Rattle.reader.specs.ReadsExactly.{gaveBlock}
 use Rattle.reader.proofs.Windows.{length-oriented, bits-oriented, length-cut, cut-oriented}
-use Rattle.reader.proofs.Steps.{length-fits, fits-window, room-refused, ends-refused, turn-refused}
-use Rattle.demands.specs.FirstPair.{FirstProper}
-use Rattle.demands.specs.Answers.{wrotePair, gaveBlock, refusedWith}
-use Rattle.demands.specs.Demand3.{SomeProper, Wrote, Demand3}
-use Rattle.demands.proofs.Encoder.{first-answered}
-use Rattle.demands.proofs.CutAccepted.{formed-code}
-use Rattle.demands.proofs.Reader.{fronts-same, cut-read}
-use Rattle.demands.proofs.Wrote.{some-first, wrote-proper, wrote-formed, wrote-scrambling, wrote-userBits, proper-apart}
+use Rattle.reader.proofs.Steps.{read-as, room-refused, ends-refused, turn-refused}
+use Rattle.reader.proofs.CutReads.{formed-code, cut-once}
+use Rattle.reader.proofs.Exact.{cut-read}
+use Rattle.demands.specs.Demand3.{SomeProper, Wrote, refusedWith, Demand3}
+use Rattle.demands.proofs.Wrote.{some-first, wrote-proper, wrote-formed, wrote-scrambling, wrote-userBits}
 use Rattle.demands.proofs.ShortFromLong.{ends-differ, ends-differ-flipped}
 use Rattle.demands.proofs.LongFromShort.{rounds-agree, rounds-divisible, rounds-no-turn}
 
@@ -43,49 +42,39 @@ encodes : (format : Format) (u out : List ℕ) → SomeProper format u → numbe
     → (B : ℕ) × (esb : ℕ) × FirstProper format u B esb × (encodeOf u out ≡ wrotePair format u out B esb)
 encodes format u out s room =
     let f = some-first format u s in
-    (f .0, f .1, f .2, first-answered format u out (s .bits) (s .size) room (f .0) (f .1) (f .2))
+    (f .0, f .1, f .2, first-answered format u out (record { bits = s .bits; size = s .size; room = room }) (f .0) (f .1) (f .2))
 
 -- ---- windows of n + r bits
 
--- an undamaged window reads back
-reads-back : (format : Format) (u : List ℕ) (B esb : ℕ) (b : List ℕ) → Wrote format u B esb b
-    → (t : ℕ) → t < numbersOf format .n → (flipped : Bool) (out : List ℕ) → numbersOf format .m ≤ length out
-    → readOf (cut (windowBits (numbersOf format)) t flipped b) out ≡ gaveBlock format B t flipped u out
-reads-back format u B esb b wrote t below flipped out room =
-    let k = windowBits (numbersOf format) in
-    cut-read format (cut k t flipped b) out (length-cut k t flipped b) room B t flipped u
-    (record {
+-- an undamaged window is cut from a well-formed telegram
+cut-from : (format : Format) (u : List ℕ) (B esb : ℕ) (b : List ℕ) → Wrote format u B esb b → (t : ℕ) → t < numbersOf format .n → (flipped : Bool)
+    → CutFrom format (cut (windowBits (numbersOf format)) t flipped b) B t flipped u
+cut-from format u B esb b wrote t below flipped =
+    record {
       telegram = b;
       well-formed = wrote-formed format u B esb b wrote;
       scrambling = wrote-scrambling format u B esb b wrote;
       userBits = wrote-userBits format u B esb b wrote;
       turn = below;
       window = refl;
-    })
+    }
 
--- readings that are the same have the same block, turn and orientation
-same-readings : (format : Format) (u v : List ℕ) (B C s t : ℕ) (f g : Bool) (out : List ℕ)
-    → gaveBlock format B s f u out ≡ gaveBlock format C t g v out → (u ≡ v) × (s ≡ t) × (f ≡ g)
-same-readings format u v B C s t f g out e =
-    let first : Reading = record { format = format; scrambling = B; turn = s; flipped = f } in
-    let second : Reading = record { format = format; scrambling = C; turn = t; flipped = g } in
-    let answers : Read first ≡ Read second = ap (λ (y : Outcome ReadAnswer). y .answer) e in
-    let readings : first ≡ second = cc in (
-      fronts-same u v (drop (numbersOf format .m) out) (ap (λ (y : Outcome ReadAnswer). y .output) e),
-      ap (λ (r : Reading). r .turn) readings,
-      ap (λ (r : Reading). r .flipped) readings,
-    )
+-- so it reads back
+reads-back : (format : Format) (u : List ℕ) (B esb : ℕ) (b : List ℕ) → Wrote format u B esb b
+    → (t : ℕ) → t < numbersOf format .n → (flipped : Bool) (out : List ℕ) → numbersOf format .m ≤ length out
+    → readOf (cut (windowBits (numbersOf format)) t flipped b) out ≡ gaveBlock format B t flipped u out
+reads-back format u B esb b wrote t below flipped out room =
+    let k = windowBits (numbersOf format) in
+    cut-read format (cut k t flipped b) out (length-cut k t flipped b) room B t flipped u (cut-from format u B esb b wrote t below flipped)
 
 -- undamaged windows that are the same bits come from one block, turn and orientation
 one-block : (format : Format) (u v : List ℕ) (B esb C e : ℕ) (b c : List ℕ) → Wrote format u B esb b → Wrote format v C e c
     → (s t : ℕ) → s < numbersOf format .n → t < numbersOf format .n → (f g : Bool)
     → cut (windowBits (numbersOf format)) s f b ≡ cut (windowBits (numbersOf format)) t g c → (u ≡ v) × (s ≡ t) × (f ≡ g)
 one-block format u v B esb C e b c wrote other s t p q f g same =
-    let out : List ℕ = replicate (numbersOf format .m) 0 in
-    let room : numbersOf format .m ≤ length out = omega (arith, length-replicate {A = ℕ} (numbersOf format .m) 0) in
-    same-readings format u v B C s t f g out
-    (sym (reads-back format u B esb b wrote s p f out room) ∙ ap (λ (w : List ℕ). readOf w out) same
-    ∙ reads-back format v C e c other t q g out room)
+    let second = subst⁻¹ (λ (w : List ℕ). CutFrom format w C t g v) same (cut-from format v C e c other t q g) in
+    let (blocks, pairs, turns, ways) = cut-once format _ B C s t f g u v (cut-from format u B esb b wrote s p f) second in
+    (blocks, turns, ways)
 
 -- ---- a window of 462 bits of a long telegram
 
@@ -98,26 +87,26 @@ short-ends b all bits apart t true w size few =
 short-ends b all bits apart t false w size few = other-same (drop 341 w) (take 121 w) (λ e. ends-differ b all apart t w size few (sym e))
 
 -- so it is refused
-short-from-long : (u : List ℕ) (B esb : ℕ) (b : List ℕ) → Wrote Long u B esb b → (t : ℕ) → t < 1023 → (flipped : Bool)
+short-from-long : (u : List ℕ) (B esb : ℕ) (b : List ℕ) → Wrote Long u B esb b → (t : ℕ) → t < long .n → (flipped : Bool)
     → (w : List ℕ) → T (allBits w) → length w ≡ 462 → differences (cut 462 t flipped b) w ≤ 14
     → (out : List ℕ)
-    → (length out < 210 → readOf w out ≡ refusedWith OutputShort out) × (210 ≤ length out → readOf w out ≡ refusedWith EndsDiffer out)
+    → (length out < short .m → readOf w out ≡ refusedWith OutputShort out) × (short .m ≤ length out → readOf w out ≡ refusedWith EndsDiffer out)
 short-from-long u B esb b wrote t below flipped w bits size few out =
     let h = parts long b (wrote-formed Long u B esb b wrote) in
-    let apart = proper-apart Long b (wrote-proper Long u B esb b wrote) in
-    let fits = length-fits Short w out (fits-window Short (length w) size) in
+    let apart = proper-parts Long b (wrote-proper Long u B esb b wrote) .not-repeating in
+    let fits = read-as Short w out size in
     let are-bits = is-true (allBits w) bits in (
-      λ less. fits ∙ room-refused Short w out are-bits less,
-      λ room. fits ∙ ends-refused Short w out are-bits room (short-ends b (h .size) (h .bits) apart t flipped w size few),
+      λ less. fits ∙ room-refused Short w out size are-bits less,
+      λ room. fits ∙ ends-refused Short w out size are-bits room (short-ends b (h .size) (h .bits) apart t flipped w size few),
     )
 
 -- ---- a window of 1100 bits of a short telegram
 
 -- it is refused
-long-from-short : (u : List ℕ) (B esb : ℕ) (b : List ℕ) → Wrote Short u B esb b → (t : ℕ) → t < 341 → (flipped : Bool)
+long-from-short : (u : List ℕ) (B esb : ℕ) (b : List ℕ) → Wrote Short u B esb b → (t : ℕ) → t < short .n → (flipped : Bool)
     → (out : List ℕ)
-    → (length out < 830 → readOf (cut 1100 t flipped b) out ≡ refusedWith OutputShort out)
-    × (830 ≤ length out → readOf (cut 1100 t flipped b) out ≡ refusedWith NoTurn out)
+    → (length out < long .m → readOf (cut 1100 t flipped b) out ≡ refusedWith OutputShort out)
+    × (long .m ≤ length out → readOf (cut 1100 t flipped b) out ≡ refusedWith NoTurn out)
 long-from-short u B esb b wrote t below flipped out =
     let h = parts short b (wrote-formed Short u B esb b wrote) in
     let x = oriented flipped b in
@@ -128,9 +117,9 @@ long-from-short u B esb b wrote t below flipped out =
     let code = formed-code Short flipped b (wrote-formed Short u B esb b wrote) in
     let are-bits = is-true (allBits w) (allBits-around 1100 t x bits) in
     let fits : readOf (cut 1100 t flipped b) out ≡ readAs Long w out =
-    ap (λ (l : List ℕ). readOf l out) (cut-oriented 1100 t flipped b some) ∙ length-fits Long w out (fits-window Long (length w) (length-around 1100 t x)) in (
-      λ less. fits ∙ room-refused Long w out are-bits less,
-      λ room. fits ∙ turn-refused Long w out are-bits room (rounds-agree x t bits size below code) (rounds-divisible x t bits size below code)
+    ap (λ (l : List ℕ). readOf l out) (cut-oriented 1100 t flipped b some) ∙ read-as Long w out (length-around 1100 t x) in (
+      λ less. fits ∙ room-refused Long w out (length-around 1100 t x) are-bits less,
+      λ room. fits ∙ turn-refused Long w out (length-around 1100 t x) are-bits room (rounds-agree x t bits size below code) (rounds-divisible x t bits size below code)
           (rounds-no-turn x t bits size below code),
     )
 

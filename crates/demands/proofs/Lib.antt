@@ -7,4 +7,3 @@ pub mod ShortFromLong
 pub mod LongFromShort
 pub mod Demand3
 pub mod Sheet
-pub mod SomeBlock

@@ -16,7 +16,7 @@ use Rattle.cyclic.specs.declared.Turn.the-variants.{At, Nothing}
 use Rattle.cyclic.specs.Remainder.{remainder}
 use Rattle.cyclic.specs.Check.{gPadded, turned, turnOf, divisible}
 use Rattle.cyclic.proofs.Laws.{Facts, longFacts, shortFacts, zeros, turned-reads, turn-never, turnOf-at, thrice}
-use Rattle.reader.specs.Reads.{endsAgree}
+use Rattle.reader.specs.Reads.{endsAgree, turnFound}
 
 -- the remainder 0 is that of no turn
 pub zero-no-turn : (F : Numbers) → Facts F → turnOf F (zeros 10) ≡ Nothing
@@ -61,7 +61,8 @@ module _ (x : List ℕ) (t : ℕ) (bits : T (allBits x)) (size : length x ≡ 34
       (ap (remainder (gOf long)) three-rounds ∙ thrice v (allBits-around 341 t x bits) (length-around 341 t x) one-round .0)
 
   -- and their remainder by the long f is that of no turn
-  pub rounds-no-turn : turnOf long (remainder (fOf long) (take 1023 (around 1100 t x))) ≡ Nothing
+  pub rounds-no-turn : turnFound long (around 1100 t x) ≡ Nothing
+  unfolding turnFound
   rounds-no-turn =
       let v = around 341 t x in
       ap (λ (l : List ℕ). turnOf long (remainder (fOf long) l)) three-rounds

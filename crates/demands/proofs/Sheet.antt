@@ -7,10 +7,11 @@ use lib.Dec.{lit≤}
 use lib.ListN.{getD, length, take, replicate}
 use Rattle.bits.specs.Bits.{allBits, same, numberFrom, bitsOf}
 use Rattle.formats.specs.declared.format.Format.the-variants.{Long, Short}
-use Rattle.formats.specs.declared.refusal.Refusal.the-variants.{NoTurn}
-use Rattle.formats.specs.Outcome.{Outcome, outcome}
+use Rattle.refusals.specs.declared.Refusal.the-variants.{NoTurn}
+use Rattle.refusals.specs.Table.{verdict}
+use Rattle.refusals.specs.Outcome.{Outcome, outcome}
 use Rattle.formats.specs.Polynomial.{polynomial, coefficientsBelow, coefficientOf, sum}
-use Rattle.formats.specs.Numbers.{short, fitOf, fOf, gOf}
+use Rattle.formats.specs.Numbers.{short, formatFor, fOf, gOf}
 use Rattle.words.specs.Table.{table}
 use Rattle.words.specs.Words.{wordOf}
 use Rattle.scrambling.specs.Scrambling.{nextState, scrambledFrom, scrambled}
@@ -20,8 +21,8 @@ use Rattle.cyclic.specs.Check.{divisible, turnOf}
 use Rattle.cyclic.proofs.Laws.{shortFacts, zeros}
 use Rattle.reader.specs.declared.ReadAnswer.{ReadAnswer}
 use Rattle.reader.specs.declared.ReadAnswer.the-variants.{Refused}
-use Rattle.reader.specs.Reads.{readValues, endsAgree, readAs, readOf}
-use Rattle.reader.proofs.Steps.{length-fits, turn-refused}
+use Rattle.reader.specs.Reads.{readValues, endsAgree, turnFound, readOf}
+use Rattle.reader.proofs.Steps.{read-as, ends-refused, turn-refused, length-refused}
 use Rattle.demands.specs.BenchSheet.{refusedRead, answers, sheet}
 use Rattle.demands.proofs.LongFromShort.{zero-no-turn}
 
@@ -43,10 +44,10 @@ unfolding remainder remainderFrom step sum fOf polynomial coefficientsBelow coef
 zeros-rest = refl
 
 zeros-read : readOf (replicate 462 0) (replicate 210 0) ≡ outcome (Refused NoTurn) (replicate 210 0)
-unfolding fitOf
+unfolding turnFound
 zeros-read =
-    length-fits Short (replicate 462 0) (replicate 210 0) refl
-    ∙ turn-refused Short (replicate 462 0) (replicate 210 0) zeros-bits (lit≤ tt) zeros-ends zeros-divisible
+    read-as Short (replicate 462 0) (replicate 210 0) refl
+    ∙ turn-refused Short (replicate 462 0) (replicate 210 0) refl zeros-bits (lit≤ tt) zeros-ends zeros-divisible
     (ap (turnOf short) zeros-rest ∙ zero-no-turn short shortFacts)
 
 no-turn : refusedRead (replicate 462 0) ≡ 7

@@ -11,7 +11,7 @@ use lib.Seq.{drop-drop}
 use Rattle.bits.specs.Bits.{allBits, around, flip}
 use Rattle.bits.specs.Differences.{differences}
 use Rattle.bits.proofs.AllBits.{allBits-take, allBits-drop}
-use Rattle.bits.proofs.Both.{both-left}
+use Rattle.bits.proofs.And.{and-left}
 use Rattle.bits.proofs.Differences.{differences-append, differences-cut, differences-drop, differences-flip, differences-symmetric, differences-triangle}
 use Rattle.bits.proofs.Flipped.{flip-take, flip-drop, length-flip}
 use Rattle.bits.proofs.Ring.{length-around, allBits-around, around-append, around-rounds, take-around, drop-around}
@@ -41,8 +41,8 @@ module _ (b : List ℕ) (size : length b ≡ 1023) (condition : T (notRepeating 
   word-apart : (j : ℕ) → j < 93 → 3 ≤ differences (around 22 (11 * j) b) (around 22 (11 * j + 341) b)
   unfolding notRepeating shiftedApart apart
   word-apart j below =
-      let at-word : T (shiftedApart b j) = rw zero-add at (each-at (shiftedApart b) 0 93 j condition below) in
-      leb→le 3 (differences (around 22 (11 * j) b) (around 22 (11 * j + 341) b)) (both-left (apart 3 b (11 * j) (11 * j + 341)) _ at-word)
+      let at-word : T (shiftedApart b (11 * j)) = rw zero-add at (each-at (λ (k : ℕ). shiftedApart b (11 * k)) 0 93 j condition below) in
+      leb→le 3 (differences (around 22 (11 * j) b) (around 22 (11 * j + 341) b)) (and-left (apart 3 b (11 * j) 341) _ at-word)
 
   -- at every multiple of 11, going round
   block-apart : (j : ℕ) → 3 ≤ differences (around 22 (11 * j) b) (around 22 (11 * j + 341) b)

@@ -11,14 +11,19 @@ use Rattle.bits.specs.Bits.{allBits}
 use Rattle.bits.specs.Differences.{differences}
 use Rattle.formats.specs.declared.format.Format.{Format}
 use Rattle.formats.specs.declared.format.Format.the-variants.{Long, Short}
-use Rattle.formats.specs.declared.refusal.Refusal.the-variants.{OutputShort, EndsDiffer, NoTurn}
-use Rattle.formats.specs.Numbers.{numbersOf, windowBits}
+use Rattle.formats.specs.Numbers.{long, short, numbersOf, windowBits}
+use Rattle.refusals.specs.declared.Refusal.{Refusal}
+use Rattle.refusals.specs.declared.Refusal.the-variants.{OutputShort, EndsDiffer, NoTurn}
+use Rattle.refusals.specs.Outcome.{Outcome, outcome}
 use Rattle.encoder.specs.declared.Encoded.the-variants.{Pair}
 use Rattle.encoder.specs.Encoding.{encodeOf}
+use Rattle.encoder.specs.FirstPair.{ProperPair, FirstProper}
+use Rattle.encoder.specs.Encodes.{wrotePair}
+use Rattle.reader.specs.declared.ReadAnswer.{ReadAnswer}
+use Rattle.reader.specs.declared.ReadAnswer.the-variants.{Refused as NotRead}
 use Rattle.reader.specs.Windows.{cut}
 use Rattle.reader.specs.Reads.{readOf}
-use Rattle.demands.specs.FirstPair.{ProperPair, FirstProper}
-use Rattle.demands.specs.Answers.{wrotePair, gaveBlock, refusedWith}
+use Rattle.reader.specs.ReadsExactly.{gaveBlock}
 
 -- u is a user block of the format for which some pair gives a proper telegram
 pub record SomeProper (format : Format) (u : List ℕ) : Type 0 where
@@ -38,6 +43,10 @@ pub record Wrote (format : Format) (u : List ℕ) (B esb : ℕ) (b : List ℕ) :
   pub answered : encodeOf u lent .answer ≡ Pair format B esb (1024 * B + esb + 1)
   pub wrote : b ≡ take (numbersOf format .n) (encodeOf u lent .output)
 
+-- reading: refused, the output as it was
+abbrev pub refusedWith : Refusal → List ℕ → Outcome ReadAnswer
+refusedWith refusal out = outcome (NotRead refusal) out
+
 -- the demand; refusals 3, 5 and 7 are `OutputShort`, `EndsDiffer` and `NoTurn`
 pub record Demand3 : Type 0 where
   -- lent room, encode answers with the first such pair, B and esb, and writes that pair's telegram
@@ -55,12 +64,12 @@ pub record Demand3 : Type 0 where
       → (u ≡ v) × (s ≡ t) × (flipped ≡ flipped′)
   -- L = 462 from a long telegram, any 0 to 14 of its bits changed, each to the other of 0 and 1: read refuses, with 3 if the output is too
   -- short, otherwise with 5
-  pub shortFromLong : (u : List ℕ) (B esb : ℕ) (b : List ℕ) → Wrote Long u B esb b → (t : ℕ) → t < 1023 → (flipped : Bool)
+  pub shortFromLong : (u : List ℕ) (B esb : ℕ) (b : List ℕ) → Wrote Long u B esb b → (t : ℕ) → t < long .n → (flipped : Bool)
       → (w : List ℕ) → T (allBits w) → length w ≡ 462 → differences (cut 462 t flipped b) w ≤ 14
       → (out : List ℕ)
-      → (length out < 210 → readOf w out ≡ refusedWith OutputShort out) × (210 ≤ length out → readOf w out ≡ refusedWith EndsDiffer out)
+      → (length out < short .m → readOf w out ≡ refusedWith OutputShort out) × (short .m ≤ length out → readOf w out ≡ refusedWith EndsDiffer out)
   -- L = 1100 from a short telegram, undamaged: read refuses, with 3 if the output is too short, otherwise with 7
-  pub longFromShort : (u : List ℕ) (B esb : ℕ) (b : List ℕ) → Wrote Short u B esb b → (t : ℕ) → t < 341 → (flipped : Bool)
+  pub longFromShort : (u : List ℕ) (B esb : ℕ) (b : List ℕ) → Wrote Short u B esb b → (t : ℕ) → t < short .n → (flipped : Bool)
       → (out : List ℕ)
-      → (length out < 830 → readOf (cut 1100 t flipped b) out ≡ refusedWith OutputShort out)
-      × (830 ≤ length out → readOf (cut 1100 t flipped b) out ≡ refusedWith NoTurn out)
+      → (length out < long .m → readOf (cut 1100 t flipped b) out ≡ refusedWith OutputShort out)
+      × (long .m ≤ length out → readOf (cut 1100 t flipped b) out ≡ refusedWith NoTurn out)

@@ -1,9 +1,4 @@
--- `FirstPair` and `CutFrom` have the terms of demand 2, `Answers` the answers, `Applies` when each refusal applies; `Demand1`, `Demand2`
--- and `Demand3` the demands.
-pub mod FirstPair
-pub mod CutFrom
-pub mod Answers
-pub mod Applies
+-- The demands, and the bench sheet. What each call means stands in the call's crate.
 pub mod Demand1
 pub mod Demand2
 pub mod Demand3
