@@ -1,5 +1,6 @@
 // Reads a telegram from standard input, characters 0 and 1, and writes what the checker answers.
 use checker::Checked;
+use formats::format::Long;
 use texts::front;
 use texts::input;
 use texts::output;
@@ -20,7 +21,7 @@ fn report(telegram: &[u8]) {
 
 fn main() {
     output::print_header(b"check");
-    let mut telegram = [0u8; 1023];
+    let mut telegram = [0u8; Long::N];
     let Progress::Count(count) = input::read_text(&mut telegram) else {
         output::print_bad();
         return;

@@ -28,7 +28,7 @@ use Rattle.reader.specs.Windows.{oriented, cut}
 use Rattle.reader.specs.CutFrom.{CutFrom}
 use Rattle.reader.specs.Reads.{endsAgree, readAs, readOf}
 use Rattle.reader.specs.ReadsExactly.{gaveBlock}
-use Rattle.reader.proofs.Windows.{length-oriented, bits-oriented, length-cut, cut-oriented}
+use Rattle.reader.proofs.Windows.{length-oriented, bits-oriented, cut-oriented}
 use Rattle.reader.proofs.Steps.{read-as, room-refused, ends-refused, turn-refused}
 use Rattle.reader.proofs.CutReads.{formed-code, cut-once}
 use Rattle.reader.proofs.Exact.{cut-read}
@@ -64,8 +64,7 @@ reads-back : (format : Format) (u : List ℕ) (B esb : ℕ) (b : List ℕ) → W
     → (t : ℕ) → t < numbersOf format .n → (flipped : Bool) (out : List ℕ) → numbersOf format .m ≤ length out
     → readOf (cut (windowBits (numbersOf format)) t flipped b) out ≡ gaveBlock format B t flipped u out
 reads-back format u B esb b wrote t below flipped out room =
-    let k = windowBits (numbersOf format) in
-    cut-read format (cut k t flipped b) out (length-cut k t flipped b) room B t flipped u (cut-from format u B esb b wrote t below flipped)
+    cut-read format (cut (windowBits (numbersOf format)) t flipped b) out room B t flipped u (cut-from format u B esb b wrote t below flipped)
 
 -- undamaged windows that are the same bits come from one block, turn and orientation
 one-block : (format : Format) (u v : List ℕ) (B esb C e : ℕ) (b c : List ℕ) → Wrote format u B esb b → Wrote format v C e c

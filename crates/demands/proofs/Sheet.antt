@@ -1,14 +1,16 @@
 -- W1 to W12 of the bench sheet, as one list. All but the turn of W10 is computed. Assumes nothing.
 use mathlib.Core.Path.{_≡_, refl, ap, _∙_}
-use mathlib.Core.Bool.{true}
+use mathlib.Core.Bool.{true, false}
 use mathlib.Core.List.{List, [], _∷_, _++_}
 use Prim.Native.Nat.{ℕ}
+use native.Mathlib.Omega.{arith}
 use lib.Dec.{lit≤}
 use lib.ListN.{getD, length, take, replicate}
 use Rattle.bits.specs.Bits.{allBits, same, numberFrom, bitsOf}
 use Rattle.formats.specs.declared.format.Format.the-variants.{Long, Short}
-use Rattle.refusals.specs.declared.Refusal.the-variants.{NoTurn}
-use Rattle.refusals.specs.Table.{verdict}
+use Rattle.refusals.specs.declared.Refusal.{Refusal}
+use Rattle.refusals.specs.declared.Refusal.the-variants.{Length, EndsDiffer, NoTurn}
+use Rattle.refusals.specs.Refused.{refusalNumber}
 use Rattle.refusals.specs.Outcome.{Outcome, outcome}
 use Rattle.formats.specs.Polynomial.{polynomial, coefficientsBelow, coefficientOf, sum}
 use Rattle.formats.specs.Numbers.{short, formatFor, fOf, gOf}
@@ -22,7 +24,7 @@ use Rattle.cyclic.proofs.Laws.{shortFacts, zeros}
 use Rattle.reader.specs.declared.ReadAnswer.{ReadAnswer}
 use Rattle.reader.specs.declared.ReadAnswer.the-variants.{Refused}
 use Rattle.reader.specs.Reads.{readValues, endsAgree, turnFound, readOf}
-use Rattle.reader.proofs.Steps.{read-as, ends-refused, turn-refused, length-refused}
+use Rattle.reader.proofs.Steps.{any-window, read-as, ends-refused, turn-refused, length-refused}
 use Rattle.demands.specs.BenchSheet.{refusedRead, answers, sheet}
 use Rattle.demands.proofs.LongFromShort.{zero-no-turn}
 
@@ -50,19 +52,37 @@ zeros-read =
     ∙ turn-refused Short (replicate 462 0) (replicate 210 0) refl zeros-bits (lit≤ tt) zeros-ends zeros-divisible
     (ap (turnOf short) zeros-rest ∙ zero-no-turn short shortFacts)
 
-no-turn : refusedRead (replicate 462 0) ≡ 7
+-- the number that a reading of w answers
+read-number : (w : List ℕ) (r : Refusal) → readOf w (replicate 210 0) ≡ outcome (Refused r) (replicate 210 0) → refusedRead w ≡ refusalNumber r
 unfolding refusedRead
-no-turn = ap (λ (o : Outcome ReadAnswer). getD (readValues (o .answer)) 0 0) zeros-read
+read-number w r e = ap (λ (o : Outcome ReadAnswer). getD (readValues (o .answer)) 0 0) e
+
+no-turn : refusedRead (replicate 462 0) ≡ 7
+no-turn = read-number (replicate 462 0) NoTurn zeros-read
 
 -- W11: the last bit made 1
-ends-differ : refusedRead (replicate 461 0 ++ (1 ∷ [])) ≡ 5
-unfolding refusedRead readOf readAs fitOf allBits endsAgree same
-ends-differ = refl
+abbrev last-1 : List ℕ
+last-1 = replicate 461 0 ++ (1 ∷ [])
+
+last-bits : allBits last-1 ≡ true
+unfolding allBits
+last-bits = refl
+
+last-ends : endsAgree short last-1 ≡ false
+unfolding endsAgree same
+last-ends = refl
+
+ends-differ : refusedRead last-1 ≡ 5
+ends-differ =
+    read-number last-1 EndsDiffer
+    (read-as Short last-1 (replicate 210 0) refl ∙ ends-refused Short last-1 (replicate 210 0) refl last-bits (lit≤ tt) last-ends)
 
 -- W12: 461 zeros
-length-fits-none : refusedRead (replicate 461 0) ≡ 1
-unfolding refusedRead readOf fitOf
-length-fits-none = refl
+length-of-none : refusedRead (replicate 461 0) ≡ 1
+unfolding formatFor
+length-of-none =
+    read-number (replicate 461 0) Length
+    (any-window (replicate 461 0) (replicate 210 0) ∙ length-refused Long (replicate 461 0) (replicate 210 0) (λ e. omega arith))
 
 -- the sheet with these three left open
 open-sheet : ℕ → ℕ → ℕ → List ℕ
@@ -75,4 +95,4 @@ computed = refl
 
 pub bench-sheet : answers ≡ sheet
 unfolding open-sheet sheet
-bench-sheet = computed ∙ rw (no-turn, ends-differ, length-fits-none)
+bench-sheet = computed ∙ rw (no-turn, ends-differ, length-of-none)

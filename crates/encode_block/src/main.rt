@@ -1,6 +1,7 @@
 // Reads a block of user bits from standard input, characters 0 and 1, and writes the telegram that the encoder gives.
 use encoder::Encoded;
 use formats::format;
+use formats::format::Long;
 use texts::front;
 use texts::input;
 use texts::output;
@@ -8,7 +9,7 @@ use texts::reading::Progress;
 
 // Lines three and four.
 fn report(block: &[u8]) {
-    let mut telegram = [0u8; 1023];
+    let mut telegram = [0u8; Long::N];
     let answer = encoder::encode(block, &mut telegram);
     match answer {
         Encoded::Pair {
@@ -30,7 +31,7 @@ fn report(block: &[u8]) {
 
 fn main() {
     output::print_header(b"encode");
-    let mut block = [0u8; 830];
+    let mut block = [0u8; Long::M];
     let Progress::Count(count) = input::read_text(&mut block) else {
         output::print_bad();
         return;

@@ -1,5 +1,6 @@
 // Reads a window from standard input, characters 0 and 1, and writes what the reader finds in it.
 use formats::format;
+use formats::format::Long;
 use reader::ReadAnswer;
 use texts::front;
 use texts::input;
@@ -8,7 +9,7 @@ use texts::reading::Progress;
 
 // Lines three and four.
 fn report(window: &[u8]) {
-    let mut user_bits = [0u8; 830];
+    let mut user_bits = [0u8; Long::M];
     let answer = reader::read(window, &mut user_bits);
     match answer {
         ReadAnswer::Read(reading) => {
@@ -26,7 +27,7 @@ fn report(window: &[u8]) {
 
 fn main() {
     output::print_header(b"read");
-    let mut window = [0u8; 1100];
+    let mut window = [0u8; Long::N + Long::R];
     let Progress::Count(count) = input::read_text(&mut window) else {
         output::print_bad();
         return;

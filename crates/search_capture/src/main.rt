@@ -2,14 +2,16 @@
 // (document 01, "Bench sheet").
 use captures::Capture;
 use formats::format;
+use formats::format::Long;
 use texts::front;
 use texts::input;
 use texts::output;
 use texts::reading::Progress;
 
-// Lines three and four. The user bits are read again from the stretch.
+// Lines three and four.
 fn report(capture: &[u8]) {
-    let answer = captures::search(capture);
+    let mut user_bits = [0u8; Long::M];
+    let answer = captures::search_read(capture, &mut user_bits);
     match answer {
         Capture::Found { place, reading } => {
             let format = reading.format;
@@ -19,8 +21,6 @@ fn report(capture: &[u8]) {
             output::print_field(b"sb", reading.scrambling as u64);
             output::print_flipped(reading.flipped);
             output::end_line();
-            let mut user_bits = [0u8; 830];
-            reader::read(captures::stretch(capture), &mut user_bits);
             output::print_bits(front(&user_bits, format::user_bits(format)));
         }
         Capture::Refused(_) => output::print_none(),
