@@ -22,7 +22,7 @@ use Rattle.refusals.specs.declared.Refusal.the-variants.{NoPlace}
 use Rattle.refusals.specs.Refused.{refusalNumber}
 use Rattle.refusals.specs.Table.{Verdict, refused, accepted, verdict, answerBy, FirstApplies, RefusesBy, risesAbove, _when_}
 use Rattle.refusals.specs.Outcome.{Outcome, outcome}
-use Rattle.refusals.proofs.Table.{Decides, NoRow, accepted-no-row, passed, failed, all-passed, given, refuses-by}
+use Rattle.refusals.proofs.Table.{Decides, NoRow, accepted-no-row, passed, failed, all-passed, given, answer-by, answer-said, outcome-kept, refuses-by}
 use Rattle.reader.specs.declared.Reading.{Reading}
 use Rattle.reader.specs.declared.ReadAnswer.{ReadAnswer}
 use Rattle.reader.specs.declared.ReadAnswer.the-variants.{Read}
@@ -50,11 +50,7 @@ refused-only (Refused q) r e = cc
 module _ (s : List ℕ) where
   search-said : said (searchOf s) ≡ verdict (searchTable s)
   unfolding searchOf foundAt
-  search-said = go (verdict (searchTable s))
-    where
-      go : (v : Verdict Refusal) → said (answerBy Refused (foundAt s (whichFound (firstPlace s))) v) ≡ v
-      go (refused r) = refl
-      go accepted = refl
+  search-said = answer-said Refused said (λ r. refl) (foundAt s (whichFound (firstPlace s))) refl (verdict (searchTable s))
 
   search-rises : T (risesAbove refusalNumber 0 (searchTable s))
   unfolding risesAbove searchTable
@@ -268,16 +264,12 @@ module _ (s : List ℕ) where
 -- ---- the search that writes
 
 module _ (s out : List ℕ) where
-  abbrev by : Verdict Refusal → Outcome Capture
-  by v = answerBy (λ (r : Refusal). outcome (Refused r) out) (foundOut s (whichFound (firstPlace s)) out) v
-
   read-said : said (searchReadOf s out .answer) ≡ verdict (searchReadTable (length out) s)
   unfolding searchReadOf foundOut foundAt
-  read-said = go (verdict (searchReadTable (length out) s))
-    where
-      go : (v : Verdict Refusal) → said (by v .answer) ≡ v
-      go (refused r) = refl
-      go accepted = refl
+  read-said =
+      let accept = foundOut s (whichFound (firstPlace s)) out in
+      let v = verdict (searchReadTable (length out) s) in
+      ap said (answer-by Refused out accept v) ∙ answer-said Refused said (λ r. refl) (accept .answer) refl v
 
   read-rises : T (risesAbove refusalNumber 0 (searchReadTable (length out) s))
   unfolding risesAbove searchReadTable
@@ -289,11 +281,8 @@ module _ (s out : List ℕ) where
 
   read-keeps : (r : Refusal) → searchReadOf s out .answer ≡ Refused r → searchReadOf s out .output ≡ out
   unfolding searchReadOf foundOut foundAt
-  read-keeps r e = go (verdict (searchReadTable (length out) s)) e
-    where
-      go : (v : Verdict Refusal) → by v .answer ≡ Refused r → by v .output ≡ out
-      go (refused q) e = refl
-      go accepted e = clash cc
+  read-keeps r =
+      outcome-kept Refused said (λ r. refl) out (foundOut s (whichFound (firstPlace s)) out) refl (verdict (searchReadTable (length out) s)) r
 
   with-room : NoRow (searchReadTable (length out) s) → long .m ≤ length out
   unfolding NoRow searchReadTable

@@ -11,9 +11,9 @@ use Rattle.bits.specs.Search.{First, found, none, isFound, whichFound}
 use Rattle.formats.specs.Numbers.{long}
 use Rattle.refusals.specs.declared.Refusal.{Refusal}
 use Rattle.refusals.specs.declared.Refusal.the-variants.{NoPlace}
-use Rattle.refusals.specs.Table.{Verdict, refused, accepted, verdict, answerBy}
+use Rattle.refusals.specs.Table.{Verdict, refused, accepted, verdict, answerBy, outcomeBy}
 use Rattle.refusals.specs.Outcome.{Outcome, outcome}
-use Rattle.refusals.proofs.Table.{Decides, passed, failed, all-passed}
+use Rattle.refusals.proofs.Table.{Decides, passed, failed, all-passed, answer-by}
 use Rattle.captures.specs.declared.Capture.{Capture}
 use Rattle.captures.specs.declared.Capture.the-variants.{Refused}
 use Rattle.captures.specs.Captures.{captureLimit, firstPlace, foundAt, foundOut, searchTable, searchOf, searchReadTable, searchReadOf}
@@ -25,10 +25,9 @@ unfolding searchOf
 search-decided s v d = ap (answerBy Refused (foundAt s (whichFound (firstPlace s)))) (d .verdict-is)
 
 pub read-decided : (s out : List ℕ) (v : Verdict Refusal) → Decides (searchReadTable (length out) s) v
-    → searchReadOf s out ≡ answerBy (λ (r : Refusal). outcome (Refused r) out) (foundOut s (whichFound (firstPlace s)) out) v
+    → searchReadOf s out ≡ outcomeBy Refused out (foundOut s (whichFound (firstPlace s)) out) v
 unfolding searchReadOf
-read-decided s out v d =
-    ap (answerBy (λ (r : Refusal). outcome (Refused r) out) (foundOut s (whichFound (firstPlace s)) out)) (d .verdict-is)
+read-decided s out v d = ap (outcomeBy Refused out (foundOut s (whichFound (firstPlace s)) out)) (d .verdict-is)
 
 -- past the tests of length, bytes and room, the first place decides
 pub by-place : (s out : List ℕ) → length s ≤ captureLimit → allBits s ≡ true → long .m ≤ length out
@@ -50,14 +49,5 @@ by-place s out within bits room = go (firstPlace s) refl
 -- lent room, both have one verdict, so they answer alike
 pub same-answer : (s out : List ℕ) → long .m ≤ length out → searchReadOf s out .answer ≡ searchOf s
 unfolding searchReadOf searchOf foundOut searchReadTable searchTable verdict
-same-answer s out room = ap (λ (v : Verdict Refusal). answered v) one-verdict ∙ alike (verdict (searchTable s))
-  where
-    answered : Verdict Refusal → Capture
-    answered v = answerBy (λ (r : Refusal). outcome (Refused r) out) (foundOut s (whichFound (firstPlace s)) out) v .answer
-
-    one-verdict : verdict (searchReadTable (length out) s) ≡ verdict (searchTable s)
-    one-verdict = rw (le-leb (long .m) (length out) room)
-
-    alike : (v : Verdict Refusal) → answered v ≡ answerBy Refused (foundAt s (whichFound (firstPlace s))) v
-    alike (refused r) = refl
-    alike accepted = refl
+same-answer s out room =
+    answer-by Refused out (foundOut s (whichFound (firstPlace s)) out) (verdict (searchReadTable (length out) s)) ∙ rw (le-leb (long .m) (length out) room)

@@ -14,7 +14,7 @@ use Rattle.formats.specs.Numbers.{long, numbersOf, windowBits}
 use Rattle.refusals.specs.declared.Refusal.{Refusal}
 use Rattle.refusals.specs.declared.Refusal.the-variants.{Length, NotBit, OutputShort, NoPlace}
 use Rattle.refusals.specs.Refused.{refusalNumber}
-use Rattle.refusals.specs.Table.{Row, _when_, verdict, answerBy}
+use Rattle.refusals.specs.Table.{Row, _when_, verdict, answerBy, outcomeBy}
 use Rattle.refusals.specs.Outcome.{Outcome, outcome}
 use Rattle.reader.specs.Reads.{readingValues, readingIn, userBitsIn, readsAs}
 use Rattle.captures.specs.declared.Capture.{Capture}
@@ -93,5 +93,4 @@ foundOut s p out =
 
 unfoldable pub searchReadOf : List ℕ → List ℕ → Outcome Capture
 searchReadOf s out =
-    answerBy (λ (r : Refusal). outcome (Refused r) out) (foundOut s (whichFound (firstPlace s)) out)
-    (verdict (searchReadTable (length out) s))
+    outcomeBy Refused out (foundOut s (whichFound (firstPlace s)) out) (verdict (searchReadTable (length out) s))

@@ -15,7 +15,7 @@ use Rattle.formats.specs.Numbers.{numbersOf}
 use Rattle.refusals.specs.declared.Refusal.{Refusal}
 use Rattle.refusals.specs.Refused.{refusalNumber}
 use Rattle.refusals.specs.Table.{Verdict, refused, accepted, verdict, answerBy, RefusesBy, risesAbove}
-use Rattle.refusals.proofs.Table.{NoRow, accepted-no-row, passed, all-passed, refuses-by}
+use Rattle.refusals.proofs.Table.{NoRow, accepted-no-row, passed, all-passed, answer-said, refuses-by}
 use Rattle.cyclic.specs.Check.{divisible, unturned}
 use Rattle.telegrams.specs.Telegram.{control}
 use Rattle.telegrams.specs.Fields.{controlOf, allWords}
@@ -43,13 +43,9 @@ rises : (format : Format) (b : List ℕ) → T (risesAbove refusalNumber 0 (chec
 unfolding risesAbove checkTable conditionTable
 rises format b = tt
 
-verdict-said : (format : Format) (v : Verdict Refusal) → said (answerBy Refused (Proper format) v) ≡ v
-verdict-said format (refused r) = refl
-verdict-said format accepted = refl
-
 said-is : (b : List ℕ) → said (checkOf b) ≡ verdict (checkTable (formatOf b) b)
 unfolding checkOf checkAs
-said-is b = verdict-said (formatOf b) (verdict (checkTable (formatOf b) b))
+said-is b = answer-said Refused said (λ r. refl) (Proper (formatOf b)) refl (verdict (checkTable (formatOf b) b))
 
 refuses : (b : List ℕ) → RefusesBy refusalNumber Refused (checkTable (formatOf b) b) (checkOf b)
 refuses b =

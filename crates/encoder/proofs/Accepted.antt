@@ -13,6 +13,7 @@ use Rattle.refusals.specs.Refused.{pairCount}
 use Rattle.refusals.specs.Table.{Verdict, refused, accepted, verdict, answerBy}
 use Rattle.refusals.specs.Outcome.{Outcome}
 use Rattle.cyclic.proofs.Formats.{factsOf}
+use Rattle.refusals.proofs.Table.{answer-said}
 use Rattle.telegrams.specs.Telegram.{telegramOf}
 use Rattle.telegrams.proofs.Made.{length-made}
 use Rattle.encoder.specs.declared.Encoded.{Encoded}
@@ -20,7 +21,7 @@ use Rattle.encoder.specs.declared.Encoded.the-variants.{Pair, Refused}
 use Rattle.encoder.specs.Encoding.{formatOf, encodeTable, encodeOf}
 use Rattle.encoder.specs.FirstPair.{FirstProper}
 use Rattle.encoder.specs.Encodes.{CleanBlock}
-use Rattle.encoder.proofs.Steps.{accepted-clean, same-table, firstAnswer, answer-by}
+use Rattle.encoder.proofs.Steps.{accepted-clean, same-table, firstAnswer, answered-by}
 use Rattle.encoder.proofs.FirstOrNone.{answered-first}
 
 -- the verdict that an answer tells
@@ -29,11 +30,9 @@ said (Refused r) = refused r
 said (Pair format B esb tried) = accepted
 
 pub tells : (u out : List ℕ) → said (encodeOf u out .answer) ≡ verdict (encodeTable (formatOf u) (length out) u)
-tells u out = ap said (answer-by u out) ∙ go (verdict (encodeTable (formatOf u) (length out) u))
-  where
-    go : (v : Verdict Refusal) → said (answerBy Refused (firstAnswer u) v) ≡ v
-    go (refused r) = refl
-    go accepted = refl
+tells u out =
+    ap said (answered-by u out)
+    ∙ answer-said Refused said (λ r. refl) (firstAnswer u) refl (verdict (encodeTable (formatOf u) (length out) u))
 
 -- ---- an answer that is a pair
 
@@ -49,7 +48,7 @@ module _ (u out : List ℕ) (format : Format) (B esb tried : ℕ) (e : encodeOf 
   pub encode-accepted : Accepted u out format B esb tried
   encode-accepted =
       let v = sym (tells u out) ∙ ap said e in
-      let answered = answer-by u out ∙ ap (answerBy Refused (firstAnswer u)) v in
+      let answered = answered-by u out ∙ ap (answerBy Refused (firstAnswer u)) v in
       let picked : formatOf u ≡ format = cc in
       let clean = subst (λ (f : Format). CleanBlock f u out) picked (accepted-clean (formatOf u) u out v) in
       let a = answered-first format u out clean B esb tried e in
@@ -73,9 +72,9 @@ module _ (u out : List ℕ) (format : Format) (B esb tried : ℕ) (e : encodeOf 
 module _ (u out out′ : List ℕ) (room : numbersOf (formatOf u) .n ≤ length out) (room′ : numbersOf (formatOf u) .n ≤ length out′) where
   pub same-answer : encodeOf u out .answer ≡ encodeOf u out′ .answer
   same-answer =
-      answer-by u out
+      answered-by u out
       ∙ ap (λ (v : Verdict Refusal). answerBy Refused (firstAnswer u) v) (ap verdict (same-table (formatOf u) u out out′ room room′))
-      ∙ sym (answer-by u out′)
+      ∙ sym (answered-by u out′)
 
   pub same-front : (format : Format) (B esb tried : ℕ) → encodeOf u out .answer ≡ Pair format B esb tried
       → take (numbersOf format .n) (encodeOf u out .output) ≡ take (numbersOf format .n) (encodeOf u out′ .output)

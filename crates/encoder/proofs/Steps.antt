@@ -15,9 +15,9 @@ use Rattle.formats.proofs.Fits.{picks, blocks-apart}
 use Rattle.refusals.specs.declared.Refusal.{Refusal}
 use Rattle.refusals.specs.declared.Refusal.the-variants.{Length, NotBit, OutputShort, NoPair}
 use Rattle.refusals.specs.Refused.{refusalNumber}
-use Rattle.refusals.specs.Table.{Verdict, refused, accepted, verdict, answerBy, risesAbove}
+use Rattle.refusals.specs.Table.{Verdict, refused, accepted, verdict, answerBy, outcomeBy, risesAbove}
 use Rattle.refusals.specs.Outcome.{outcome}
-use Rattle.refusals.proofs.Table.{Decides, passed, failed, all-passed, NoRow, accepted-no-row}
+use Rattle.refusals.proofs.Table.{Decides, passed, failed, all-passed, NoRow, accepted-no-row, answer-by}
 use Rattle.encoder.specs.declared.Encoded.{Encoded}
 use Rattle.encoder.specs.declared.Encoded.the-variants.{Pair, Refused}
 use Rattle.encoder.specs.Encoding.{formatOf, firstPair, encodeTable, written, encodeAs, encodeOf}
@@ -29,7 +29,7 @@ use Rattle.encoder.proofs.Pairs.{pair-written}
 module _ (format : Format) (u out : List ℕ) where
   -- the format is that which the length picks
   decided : (v : Verdict Refusal) → format ≡ formatOf u → Decides (encodeTable format (length out) u) v
-      → encodeOf u out ≡ answerBy (λ (r : Refusal). outcome (Refused r) out) (written format u out (whichFound (firstPair format u))) v
+      → encodeOf u out ≡ outcomeBy Refused out (written format u out (whichFound (firstPair format u))) v
   unfolding encodeOf encodeAs
   decided v e d = rw (← e, d .verdict-is)
 
@@ -105,15 +105,10 @@ firstAnswer u = let p = whichFound (firstPair (formatOf u) u) in Pair (formatOf 
 
 module _ (u out : List ℕ) where
   -- the answer by the verdict
-  pub answer-by : encodeOf u out .answer ≡ answerBy Refused (firstAnswer u) (verdict (encodeTable (formatOf u) (length out) u))
+  pub answered-by : encodeOf u out .answer ≡ answerBy Refused (firstAnswer u) (verdict (encodeTable (formatOf u) (length out) u))
   unfolding encodeOf encodeAs written
-  answer-by = go (verdict (encodeTable (formatOf u) (length out) u))
-    where
-      go : (v : Verdict Refusal)
-          → answerBy (λ (r : Refusal). outcome (Refused r) out) (written (formatOf u) u out (whichFound (firstPair (formatOf u) u))) v .answer
-          ≡ answerBy Refused (firstAnswer u) v
-      go (refused r) = refl
-      go accepted = refl
+  answered-by =
+      answer-by Refused out (written (formatOf u) u out (whichFound (firstPair (formatOf u) u))) (verdict (encodeTable (formatOf u) (length out) u))
 
   -- a refusal keeps the output
   pub kept : (r : Refusal) → verdict (encodeTable (formatOf u) (length out) u) ≡ refused r → encodeOf u out ≡ outcome (Refused r) out

@@ -13,7 +13,7 @@ use Rattle.formats.specs.Numbers.{short, numbersOf, formatFor}
 use Rattle.refusals.specs.declared.Refusal.{Refusal}
 use Rattle.refusals.specs.declared.Refusal.the-variants.{Length, NotBit, OutputShort, NoPair}
 use Rattle.refusals.specs.Refused.{pairCount, refusalNumber, triedCount}
-use Rattle.refusals.specs.Table.{Row, _when_, verdict, answerBy}
+use Rattle.refusals.specs.Table.{Row, _when_, verdict, outcomeBy}
 use Rattle.refusals.specs.Outcome.{Outcome, outcome}
 use Rattle.refusals.specs.AnswerValues.{formatNumber}
 use Rattle.telegrams.specs.Telegram.{telegramOf}
@@ -60,8 +60,7 @@ written format u out p =
 
 unfoldable pub encodeAs : Format → List ℕ → List ℕ → Outcome Encoded
 encodeAs format u out =
-    answerBy (λ (r : Refusal). outcome (Refused r) out) (written format u out (whichFound (firstPair format u)))
-    (verdict (encodeTable format (length out) u))
+    outcomeBy Refused out (written format u out (whichFound (firstPair format u))) (verdict (encodeTable format (length out) u))
 
 -- any block
 unfoldable pub encodeOf : List ℕ → List ℕ → Outcome Encoded

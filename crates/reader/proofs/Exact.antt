@@ -15,13 +15,13 @@ use Rattle.refusals.specs.declared.Refusal.{Refusal}
 use Rattle.refusals.specs.Refused.{refusalNumber}
 use Rattle.refusals.specs.Table.{Verdict, refused, accepted, verdict}
 use Rattle.refusals.specs.Outcome.{Outcome, outcome, FrontWritten}
-use Rattle.refusals.proofs.Table.{refuses-by}
+use Rattle.refusals.proofs.Table.{answer-by, answer-said, refuses-by}
 use Rattle.refusals.proofs.Fronts.{front-written}
 use Rattle.telegrams.proofs.Made.{length-userBits}
 use Rattle.reader.specs.declared.Reading.{Reading}
 use Rattle.reader.specs.declared.ReadAnswer.{ReadAnswer}
 use Rattle.reader.specs.declared.ReadAnswer.the-variants.{Read, Refused}
-use Rattle.reader.specs.Reads.{formatOf, turnIn, telegramIn, readTable, userBitsIn, readAs, readOf}
+use Rattle.reader.specs.Reads.{formatOf, turnIn, telegramIn, readTable, userBitsIn, readOut, readOf}
 use Rattle.reader.specs.CutFrom.{CutFrom}
 use Rattle.reader.specs.ReadsExactly.{gaveBlock, ReadsExactly}
 use Rattle.reader.proofs.Steps.{decided, any-window, read-as, rises}
@@ -42,12 +42,11 @@ refusal-said (Read reading) r e = clash cc
 
 -- is the table's verdict
 verdict-said : (w out : List ℕ) → said (readOf w out .answer) ≡ verdict (readTable (formatOf w) (length out) w)
-verdict-said w out = ap (λ (x : Outcome ReadAnswer). said (x .answer)) (any-window w out) ∙ go (verdict (readTable (formatOf w) (length out) w)) refl
-  where
-    go : (v : Verdict Refusal) → verdict (readTable (formatOf w) (length out) w) ≡ v
-        → said (readAs (formatOf w) w out .answer) ≡ verdict (readTable (formatOf w) (length out) w)
-    go (refused r) e = ap (λ (x : Outcome ReadAnswer). said (x .answer)) (decided (formatOf w) w out (refused r) e) ∙ sym e
-    go accepted e = ap (λ (x : Outcome ReadAnswer). said (x .answer)) (decided (formatOf w) w out accepted e) ∙ sym e
+verdict-said w out =
+    let v = verdict (readTable (formatOf w) (length out) w) in
+    ap (λ (x : Outcome ReadAnswer). said (x .answer)) (any-window w out ∙ decided (formatOf w) w out v refl)
+    ∙ ap said (answer-by Refused out (readOut (formatOf w) w out) v)
+    ∙ answer-said Refused said (λ r. refl) (readOut (formatOf w) w out .answer) refl v
 
 -- ---- accepted where it is cut from a telegram
 

@@ -11,8 +11,9 @@ use Rattle.bits.proofs.Tests.{clash, holds, fails, is-false}
 use Rattle.formats.specs.declared.format.Format.{Format}
 use Rattle.formats.specs.Numbers.{numbersOf, windowBits}
 use Rattle.refusals.specs.declared.Refusal.{Refusal}
-use Rattle.refusals.specs.Table.{Verdict, refused, accepted, verdict, answerBy}
+use Rattle.refusals.specs.Table.{Verdict, refused, accepted, verdict, answerBy, outcomeBy}
 use Rattle.refusals.specs.Outcome.{Outcome, outcome}
+use Rattle.refusals.proofs.Table.{answer-by}
 use Rattle.telegrams.proofs.WellFormed.{scrambling-below}
 use Rattle.reader.specs.declared.Reading.{Reading}
 use Rattle.reader.specs.declared.ReadAnswer.{ReadAnswer}
@@ -126,7 +127,7 @@ answer-as format w out out′ room room′ =
     ap answerOf (decided format w out v (with-room format w (length out) room)) ∙ go v
     ∙ sym (ap answerOf (decided format w out′ v (with-room format w (length out′) room′)))
   where
-    go : (v : Verdict Refusal) → answerBy (λ (r : Refusal). outcome (Refused r) out) (readOut format w out) v .answer
+    go : (v : Verdict Refusal) → outcomeBy Refused out (readOut format w out) v .answer
         ≡ answerBy (λ (r : Refusal). outcome (Refused r) out′) (readOut format w out′) v .answer
     go (refused r) = refl
     go accepted = refl

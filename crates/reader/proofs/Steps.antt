@@ -14,7 +14,7 @@ use Rattle.formats.proofs.Fits.{picks, windows-apart}
 use Rattle.refusals.specs.declared.Refusal.{Refusal}
 use Rattle.refusals.specs.declared.Refusal.the-variants.{Length, NotBit, OutputShort, EndsDiffer, NotDivisible, NoTurn, Control, NotWord}
 use Rattle.refusals.specs.Refused.{refusalNumber}
-use Rattle.refusals.specs.Table.{Verdict, verdict, answerBy, risesAbove}
+use Rattle.refusals.specs.Table.{Verdict, verdict, outcomeBy, risesAbove}
 use Rattle.refusals.specs.Outcome.{outcome}
 use Rattle.cyclic.specs.declared.Turn.the-variants.{At, Nothing}
 use Rattle.cyclic.specs.Check.{divisible}
@@ -28,9 +28,9 @@ use Rattle.reader.specs.AtTurn.{readTelegram, readAtTurn}
 
 -- a window that is to be the format's
 pub decided : (format : Format) (w out : List ℕ) (v : Verdict Refusal) → verdict (readTable format (length out) w) ≡ v
-    → readAs format w out ≡ answerBy (λ (r : Refusal). outcome (Refused r) out) (readOut format w out) v
+    → readAs format w out ≡ outcomeBy Refused out (readOut format w out) v
 unfolding readAs
-decided format w out v e = ap (answerBy (λ (r : Refusal). outcome (Refused r) out) (readOut format w out)) e
+decided format w out v e = ap (outcomeBy Refused out (readOut format w out)) e
 
 -- any window is to be that of the format that its length picks
 pub any-window : (w out : List ℕ) → readOf w out ≡ readAs (formatOf w) w out

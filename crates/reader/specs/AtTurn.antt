@@ -6,8 +6,7 @@ use mathlib.Core.List.{List, _++_}
 use lib.ListN.{drop}
 use Rattle.formats.specs.declared.format.Format.{Format}
 use Rattle.formats.specs.Numbers.{numbersOf}
-use Rattle.refusals.specs.declared.Refusal.{Refusal}
-use Rattle.refusals.specs.Table.{verdict, answerBy}
+use Rattle.refusals.specs.Table.{verdict, outcomeBy}
 use Rattle.refusals.specs.Outcome.{Outcome, outcome}
 use Rattle.telegrams.specs.Fields.{userBitsOf}
 use Rattle.reader.specs.declared.ReadAnswer.{ReadAnswer}
@@ -18,7 +17,7 @@ use Rattle.reader.specs.Reads.{isFlipped, turnedBack, telegramIn, telegr
 unfoldable pub readTelegram : Format → ℕ → Bool → List ℕ → List ℕ → Outcome ReadAnswer
 readTelegram format t flipped b out =
     let F = numbersOf format in
-    answerBy (λ (r : Refusal). outcome (Refused r) out)
+    outcomeBy Refused out
     (outcome (Read (readingOf format t flipped b)) (userBitsOf F b ++ drop (F .m) out))
     (verdict (telegramTable F b))
 

@@ -12,7 +12,7 @@ use Rattle.formats.specs.Numbers.{Numbers, short, numbersOf, windowBits, format
 use Rattle.refusals.specs.declared.Refusal.{Refusal}
 use Rattle.refusals.specs.declared.Refusal.the-variants.{Length, NotBit, OutputShort, EndsDiffer, NotDivisible, NoTurn, Control, NotWord}
 use Rattle.refusals.specs.Refused.{refusalNumber}
-use Rattle.refusals.specs.Table.{Row, _when_, verdict, accepts, answerBy}
+use Rattle.refusals.specs.Table.{Row, _when_, verdict, accepts, outcomeBy}
 use Rattle.refusals.specs.Outcome.{Outcome, outcome}
 use Rattle.refusals.specs.AnswerValues.{formatNumber, flippedNumber}
 use Rattle.cyclic.specs.declared.Turn.{Turn}
@@ -118,7 +118,7 @@ readOut format w out = outcome (Read (readingIn format w)) (userBitsIn format w 
 
 -- a window that is to be the format's
 unfoldable pub readAs : Format → List ℕ → List ℕ → Outcome ReadAnswer
-readAs format w out = answerBy (λ (r : Refusal). outcome (Refused r) out) (readOut format w out) (verdict (readTable format (length out) w))
+readAs format w out = outcomeBy Refused out (readOut format w out) (verdict (readTable format (length out) w))
 
 -- any window
 unfoldable pub readOf : List ℕ → List ℕ → Outcome ReadAnswer

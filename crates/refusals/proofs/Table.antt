@@ -9,7 +9,8 @@ use native.Mathlib.Omega.{arith}
 use lib.Dec.{T, ltb, ltb→lt}
 use Rattle.bits.proofs.And.{and-left, and-right}
 use Rattle.bits.proofs.Tests.{clash}
-use Rattle.refusals.specs.Table.{Row, _when_, Verdict, refused, accepted, verdict, answerBy, RowApplies, Applies, FirstApplies, Lowest, RefusesBy, risesAbove}
+use Rattle.refusals.specs.Outcome.{Outcome}
+use Rattle.refusals.specs.Table.{Row, _when_, Verdict, refused, accepted, verdict, answerBy, outcomeBy, RowApplies, Applies, FirstApplies, Lowest, RefusesBy, risesAbove}
 
 module _ {R : Type 0} where
   -- ---- a verdict is one of the two
@@ -168,12 +169,29 @@ module _ {R : Type 0} where
 
 -- ---- an answer that goes by a table
 
--- what an answer says, `refused` by `refuse`
-module _ {R A : Type 0} (refuse : R → A) (said : A → Verdict R) (known : (r : R) → said (refuse r) ≡ refused r)
-    (only : (a : A) (r : R) → said a ≡ refused r → a ≡ refuse r) where
-  pub refuses-by : (number : R → ℕ) (rows : List (Row R)) → T (risesAbove number 0 rows) → (a : A) → said a ≡ verdict rows
-      → RefusesBy number refuse rows a
-  refuses-by number rows h a e r = (
+-- the answer of a call that writes a buffer
+pub answer-by : {R A : Type 0} (refuse : R → A) (out : List ℕ) (accept : Outcome A) (v : Verdict R)
+    → outcomeBy refuse out accept v .answer ≡ answerBy refuse (accept .answer) v
+answer-by refuse out accept (refused r) = refl
+answer-by refuse out accept accepted = refl
+
+-- what an answer says
+module _ {R A : Type 0} (refuse : R → A) (said : A → Verdict R) (known : (r : R) → said (refuse r) ≡ refused r) where
+  -- is the verdict
+  pub answer-said : (accept : A) → said accept ≡ accepted → (v : Verdict R) → said (answerBy refuse accept v) ≡ v
+  answer-said accept h (refused r) = known r
+  answer-said accept h accepted = h
+
+  -- a refusal keeps the output
+  pub outcome-kept : (out : List ℕ) (accept : Outcome A) → said (accept .answer) ≡ accepted → (v : Verdict R) (r : R)
+      → outcomeBy refuse out accept v .answer ≡ refuse r → outcomeBy refuse out accept v .output ≡ out
+  outcome-kept out accept h (refused q) r e = refl
+  outcome-kept out accept h accepted r e = accepted-refused r (sym h ∙ ap said e ∙ known r)
+
+  -- where the numbers rise, it is a refusal exactly where that is the lowest that applies
+  pub refuses-by : ((a : A) (r : R) → said a ≡ refused r → a ≡ refuse r) → (number : R → ℕ) (rows : List (Row R)) → T (risesAbove number 0 rows)
+      → (a : A) → said a ≡ verdict rows → RefusesBy number refuse rows a
+  refuses-by only number rows h a e r = (
     λ f. lowest-given number rows h r .0 (sym e ∙ ap said f ∙ known r),
     λ l. only a r (e ∙ lowest-given number rows h r .1 l),
   )

@@ -1,4 +1,4 @@
 pub mod Refused
-pub mod Table
 pub mod Outcome
+pub mod Table
 pub mod AnswerValues

@@ -6,6 +6,7 @@ use mathlib.Core.Bool.{Bool, true, false, cond, _&&_}
 use mathlib.Core.List.{List, [], _∷_}
 use mathlib.Core.Logic.{_⊎_, _↔_}
 use lib.Dec.{T, ltb}
+use Rattle.refusals.specs.Outcome.{Outcome, outcome}
 
 pub record Row (R : Type 0) : Type 0 where
   pub refusal : R
@@ -34,6 +35,10 @@ accepts accepted = true
 abbrev pub answerBy : {R A : Type 0} → (R → A) → A → Verdict R → A
 answerBy refuse accept (refused r) = refuse r
 answerBy refuse accept accepted = accept
+
+-- the same of a call that writes a buffer: a refusal keeps every byte of the output
+abbrev pub outcomeBy : {R A : Type 0} → (R → A) → List ℕ → Outcome A → Verdict R → Outcome A
+outcomeBy {R} refuse out accept v = answerBy (λ (r : R). outcome (refuse r) out) accept v
 
 -- ---- what that means
 
