@@ -19,7 +19,7 @@ use Rattle.telegrams.proofs.Made.{length-made}
 use Rattle.encoder.specs.declared.Encoded.{Encoded}
 use Rattle.encoder.specs.declared.Encoded.the-variants.{Pair, Refused}
 use Rattle.encoder.specs.Encoding.{formatOf, encodeTable, encodeOf}
-use Rattle.encoder.specs.Encodes.{Encodes}
+use Rattle.encoder.specs.Encodes.{CleanBlock, EncodeAnswers, EncodesFirst}
 use Rattle.encoder.proofs.Steps.{rises, kept}
 use Rattle.encoder.proofs.FirstOrNone.{first-or-none, gives-first, says-none}
 use Rattle.encoder.proofs.Accepted.{said, tells, encode-accepted}
@@ -37,15 +37,20 @@ written-front u out format B esb tried e =
     let a = encode-accepted u out format B esb tried e in
     rw (a .output) (front-written (F .n) (telegramOf F u B esb) out (length-made F (factsOf format) (sizesOf format) u B esb) (a .clean .room))
 
-pub encodes : (u out : List ℕ) → Encodes u out
-encodes u out =
+pub encode-answers : (u out : List ℕ) → EncodeAnswers u out
+encode-answers u out =
     record {
       refuses =
           refuses-by Refused said (λ r. refl) only refusalNumber (encodeTable (formatOf u) (length out) u) (rises (formatOf u) (length out) u)
           (encodeOf u out .answer) (tells u out);
-      givesFirst = λ format. gives-first format u out;
-      saysNone = λ format. says-none format u out;
-      firstOrNone = λ format. first-or-none format u out;
       keeps = λ r e. ap (λ (y : Outcome Encoded). y .output) (kept u out r (sym (tells u out) ∙ ap said e));
       writes = written-front u out;
+    }
+
+pub encodes-first : (format : Format) (u out : List ℕ) → CleanBlock format u out → EncodesFirst format u out
+encodes-first format u out clean =
+    record {
+      givesFirst = gives-first format u out clean;
+      saysNone = says-none format u out clean;
+      firstOrNone = first-or-none format u out clean;
     }

@@ -35,20 +35,23 @@ wrotePair format u out B esb =
 abbrev pub foundNone : List ℕ → Outcome Encoded
 foundNone out = outcome (Refused NoPair) out
 
-pub record Encodes (u out : List ℕ) : Type 0 where
+-- demand 1: what encode answers by its table; each quotation is from document 01, "When the bench says no"
+pub record EncodeAnswers (u out : List ℕ) : Type 0 where
   -- "The lowest number that applies is given", and none otherwise
   pub refuses : RefusesBy refusalNumber Refused (encodeTable (formatOf u) (length out) u) (encodeOf u out .answer)
-  -- it answers with a pair, that pair's count and telegram, exactly when the pair is the first whose telegram is proper
-  pub givesFirst : (format : Format) → CleanBlock format u out → (B esb : ℕ)
-      → (encodeOf u out ≡ wrotePair format u out B esb) ↔ FirstProper format u B esb
-  -- it says that there is none exactly when no pair's telegram is proper
-  pub saysNone : (format : Format) → CleanBlock format u out → (encodeOf u out ≡ foundNone out) ↔ NoneProper format u
-  -- and it does one of the two
-  pub firstOrNone : (format : Format) → CleanBlock format u out
-      → ((B : ℕ) × (esb : ℕ) × FirstProper format u B esb × (encodeOf u out ≡ wrotePair format u out B esb))
-      ⊎ (NoneProper format u × (encodeOf u out ≡ foundNone out))
   -- "outputs keep every byte"
   pub keeps : (r : Refusal) → encodeOf u out .answer ≡ Refused r → encodeOf u out .output ≡ out
   -- "Success writes exactly the first n or m bytes; longer outputs keep their tails."
   pub writes : (format : Format) (B esb tried : ℕ) → encodeOf u out .answer ≡ Pair format B esb tried
       → FrontWritten (numbersOf format .n) out (encodeOf u out .output)
+
+-- demand 2: "Lent clean input and room for the answer, the encoder gives the first pair of scrambling and shaping bits, in counting order,
+-- whose telegram meets every condition, and says there is none exactly when none of the 4,194,304 pairs does"
+pub record EncodesFirst (format : Format) (u out : List ℕ) : Type 0 where
+  -- it answers with a pair, that pair's count and telegram, exactly when the pair is that first one
+  pub givesFirst : (B esb : ℕ) → (encodeOf u out ≡ wrotePair format u out B esb) ↔ FirstProper format u B esb
+  -- it gives refusal 4, which has the count of all pairs, exactly when there is none
+  pub saysNone : (encodeOf u out ≡ foundNone out) ↔ NoneProper format u
+  -- and it does one of the two
+  pub firstOrNone : ((B : ℕ) × (esb : ℕ) × FirstProper format u B esb × (encodeOf u out ≡ wrotePair format u out B esb))
+      ⊎ (NoneProper format u × (encodeOf u out ≡ foundNone out))

@@ -23,7 +23,7 @@ use Rattle.reader.specs.declared.ReadAnswer.{ReadAnswer}
 use Rattle.reader.specs.declared.ReadAnswer.the-variants.{Read, Refused}
 use Rattle.reader.specs.Reads.{formatOf, turnIn, telegramIn, readTable, userBitsIn, readOut, readOf}
 use Rattle.reader.specs.CutFrom.{CutFrom}
-use Rattle.reader.specs.ReadsExactly.{gaveBlock, ReadsExactly}
+use Rattle.reader.specs.ReadsExactly.{gaveBlock, ReadAnswers, LentWindow, ReadsExactly}
 use Rattle.reader.proofs.Steps.{decided, any-window, read-as, rises}
 use Rattle.reader.proofs.Laws.{reads-as, answered-read, answered-refused, read-accepted}
 use Rattle.reader.proofs.CutReads.{cut-tells}
@@ -93,24 +93,28 @@ front-over w out reading e =
 
 -- ---- all of it
 
-pub reads-exactly : (w out : List ℕ) → ReadsExactly w out
-reads-exactly w out =
+pub read-answers : (w out : List ℕ) → ReadAnswers w out
+read-answers w out =
     record {
       refuses =
           refuses-by Refused said (λ r. refl) refusal-said refusalNumber (readTable (formatOf w) (length out) w) (rises (formatOf w) (length out) w)
           (readOf w out .answer) (verdict-said w out);
-      accepts =
-          λ format size room. (
-            λ r. (r .0 .scrambling, r .0 .turn, r .0 .flipped, userBitsIn format w, read-cut format w out size (r .0) (r .1) (r .2) .0),
-            λ c. (
-              record { format = format; scrambling = c .0; turn = c .1; flipped = c .2 },
-              gaveBlock format (c .0) (c .1) (c .2) (c .3) out .output,
-              cut-read format w out room (c .0) (c .1) (c .2) (c .3) (c .4),
-            ),
-          );
-      gives = λ format size room B t flipped u. (read-gave format w out size B t flipped u, cut-read format w out room B t flipped u);
       keeps =
           λ r e. answered-refused (formatOf w) w out r (readOf w out .output)
           (sym (any-window w out) ∙ ap (λ (a : ReadAnswer). outcome a (readOf w out .output)) e) .0;
       writes = front-over w out;
+    }
+
+pub reads-exactly : (format : Format) (w out : List ℕ) → LentWindow format w out → ReadsExactly format w out
+reads-exactly format w out lent =
+    record {
+      accepts = (
+        λ r. (r .0 .scrambling, r .0 .turn, r .0 .flipped, userBitsIn format w, read-cut format w out (lent .size) (r .0) (r .1) (r .2) .0),
+        λ c. (
+          record { format = format; scrambling = c .0; turn = c .1; flipped = c .2 },
+          gaveBlock format (c .0) (c .1) (c .2) (c .3) out .output,
+          cut-read format w out (lent .room) (c .0) (c .1) (c .2) (c .3) (c .4),
+        ),
+      );
+      gives = λ B t flipped u. (read-gave format w out (lent .size) B t flipped u, cut-read format w out (lent .room) B t flipped u);
     }

@@ -23,19 +23,25 @@ abbrev pub gaveBlock : Format → ℕ → ℕ → Bool → List ℕ → List ℕ
 gaveBlock format B t flipped u out =
     outcome (Read (record { format = format; scrambling = B; turn = t; flipped = flipped })) (u ++ drop (numbersOf format .m) out)
 
-pub record ReadsExactly (w out : List ℕ) : Type 0 where
+-- demand 1: what read answers by its table; each quotation is from document 01, "When the bench says no"
+pub record ReadAnswers (w out : List ℕ) : Type 0 where
   -- "The lowest number that applies is given", and none otherwise
   pub refuses : RefusesBy refusalNumber Refused (readTable (formatOf w) (length out) w) (readOf w out .answer)
-  -- lent room, a window of a format is accepted exactly when it is cut from a well-formed telegram going round, upright or flipped
-  -- (whose bits are 0 or 1, so a window with another byte is cut from none)
-  pub accepts : (format : Format) → length w ≡ windowBits (numbersOf format) → numbersOf format .m ≤ length out
-      → ((reading : Reading) × (o : List ℕ) × (readOf w out ≡ outcome (Read reading) o))
-      ↔ ((B : ℕ) × (t : ℕ) × (flipped : Bool) × (u : List ℕ) × CutFrom format w B t flipped u)
-  -- and the answer is what that telegram carries: this format, B, turn, way up and block exactly when it is cut so from a telegram with these
-  pub gives : (format : Format) → length w ≡ windowBits (numbersOf format) → numbersOf format .m ≤ length out
-      → (B t : ℕ) (flipped : Bool) (u : List ℕ) → (readOf w out ≡ gaveBlock format B t flipped u out) ↔ CutFrom format w B t flipped u
   -- "outputs keep every byte"
   pub keeps : (r : Refusal) → readOf w out .answer ≡ Refused r → readOf w out .output ≡ out
   -- "Success writes exactly the first n or m bytes; longer outputs keep their tails."
   pub writes : (reading : Reading) → readOf w out .answer ≡ Read reading
       → FrontWritten (numbersOf (reading .format) .m) out (readOf w out .output)
+
+-- a window of the format's length, and room for the user bits
+pub record LentWindow (format : Format) (w out : List ℕ) : Type 0 where
+  pub size : length w ≡ windowBits (numbersOf format)
+  pub room : numbersOf format .m ≤ length out
+
+-- demand 2: "On the same terms the reader accepts a window exactly when it is cut from a well-formed telegram going round, upright or
+-- flipped, and gives what that telegram carries" (its bits are 0 or 1, so a window with another byte is cut from none)
+pub record ReadsExactly (format : Format) (w out : List ℕ) : Type 0 where
+  pub accepts : ((reading : Reading) × (o : List ℕ) × (readOf w out ≡ outcome (Read reading) o))
+      ↔ ((B : ℕ) × (t : ℕ) × (flipped : Bool) × (u : List ℕ) × CutFrom format w B t flipped u)
+  -- this format, B, turn, way up and block exactly when it is cut so from a telegram with these
+  pub gives : (B t : ℕ) (flipped : Bool) (u : List ℕ) → (readOf w out ≡ gaveBlock format B t flipped u out) ↔ CutFrom format w B t flipped u
