@@ -3,20 +3,19 @@
 use mathlib.Core.Path.{_≡_, refl, sym, ap, subst, subst⁻¹, _∙_}
 use mathlib.Core.Bool.{Bool, true, false, true≢false, not}
 use mathlib.Core.List.{List, [], _∷_, _++_}
-use mathlib.Core.Logic.{_↔_, inl, inr}
+use mathlib.Core.Logic.{inl, inr}
 use Prim.Native.Nat.{ℕ, _+_, _≤_, _<_}
 use native.Mathlib.Omega.{arith}
 use borrow.Author.Tests.{not-false, le-leb, leb-true}
 use lib.Dec.{T, leb, leb→le}
-use lib.ListN.{length, take, drop, replicate, length-replicate}
+use lib.ListN.{length, drop}
 use Rattle.bits.specs.Bits.{allBits}
-use Rattle.bits.specs.Search.{First, found, none, firstOf, isFound, whichFound}
+use Rattle.bits.specs.Search.{First, found, none, isFound, whichFound}
 use Rattle.bits.proofs.First.{first-found, first-missing, missing-first}
-use Rattle.bits.proofs.Tests.{clash, holds, fails, is-true, is-false}
+use Rattle.bits.proofs.Tests.{clash, holds, is-true, is-false}
 use Rattle.formats.specs.declared.format.Format.{Format}
 use Rattle.formats.specs.declared.format.Format.the-variants.{Long, Short}
 use Rattle.formats.specs.Numbers.{long, numbersOf, windowBits}
-use Rattle.formats.proofs.Fits.{one-format, windows-apart}
 use Rattle.refusals.specs.declared.Refusal.{Refusal}
 use Rattle.refusals.specs.declared.Refusal.the-variants.{NoPlace}
 use Rattle.refusals.specs.Refused.{refusalNumber}
@@ -26,16 +25,17 @@ use Rattle.refusals.proofs.Table.{Decides, NoRow, accepted-no-row, passed, fail
 use Rattle.reader.specs.declared.Reading.{Reading}
 use Rattle.reader.specs.declared.ReadAnswer.{ReadAnswer}
 use Rattle.reader.specs.declared.ReadAnswer.the-variants.{Read}
-use Rattle.reader.specs.Reads.{readingIn, userBitsIn, readOf, readsAs}
-use Rattle.reader.proofs.Laws.{reading-format, reads-as, read-accepted}
+use Rattle.reader.specs.Reads.{readingIn, userBitsIn, readOf}
+use Rattle.reader.proofs.Laws.{reading-format, reads-as}
 use Rattle.captures.specs.declared.Capture.{Capture}
 use Rattle.captures.specs.declared.Capture.the-variants.{Found, Refused}
 use Rattle.captures.specs.Captures.{captureLimit, windowAt, acceptsAs, acceptsAt, firstPlace, formatAt, foundAt, foundOut, searchTable, searchOf, stretchAs, stretchOf, searchReadTable, searchReadOf}
 use Rattle.captures.specs.Attempts.{outFound}
-use Rattle.captures.specs.FirstPlace.{ReadsAt, NotAt, FirstPlace, NoneAccepts, Searched, Searches, SearchReads}
-use Rattle.captures.proofs.Places.{window-least, block-most, window-there, window-length, accepts-fits, long-there, short-there, neither-there, found-there, none-there, Passed}
+use Rattle.captures.specs.FirstPlace.{ReadsAt, FirstPlace, NoneAccepts, Searched, Searches, SearchReads}
+use Rattle.captures.proofs.Places.{window-least, block-most, window-there, window-length, accepts-fits, long-there, short-there, neither-there, found-there, Passed}
 use Rattle.captures.proofs.Found.{found-as, out-as}
 use Rattle.captures.proofs.Steps.{search-decided, by-place, same-answer}
+use Rattle.captures.proofs.Accepting.{accepts-reads, reads-accepts, not-accepted, accepted-not, format-accepts, none-accepts}
 
 -- ---- refusals
 
@@ -63,57 +63,6 @@ module _ (s : List ℕ) where
 unrefused : (t : Bool) → (T (not t) → ⊥) → T t
 unrefused true h = tt
 unrefused false h = h tt
-
--- ---- the places at which read accepts
-
-module _ (format : Format) (s : List ℕ) (p : ℕ) where
-  accepts-reads : T (acceptsAs format s p) → ReadsAt format s p (readingIn format (windowAt format s p))
-  unfolding acceptsAs
-  accepts-reads h =
-      record {
-        fits = accepts-fits format s p h;
-        reads = λ out room. ap (λ (x : Outcome ReadAnswer). x .answer) (reads-as format (windowAt format s p) out h room);
-      }
-
-  -- what reads there is accepted, and this is its reading
-  reads-accepts : (reading : Reading) → ReadsAt format s p reading → T (acceptsAs format s p) × (reading ≡ readingIn format (windowAt format s p))
-  unfolding acceptsAs
-  reads-accepts reading h =
-      let w = windowAt format s p in
-      let zeros : List ℕ = replicate (numbersOf format .m) 0 in
-      let room : numbersOf format .m ≤ length zeros = omega (arith, length-replicate {A = ℕ} (numbersOf format .m) 0) in
-      let known = read-accepted w zeros reading (h .reads zeros room) in
-      let same : reading .format ≡ format =
-      one-format windowBits windows-apart (length w) (reading .format) format (known .size) (window-length format s p (h .fits)) in
-      subst (λ (f : Format). T (readsAs f w) × (reading ≡ readingIn f w)) same (known .accepted, known .reads)
-
-  not-accepted : acceptsAs format s p ≡ false → NotAt format s p
-  not-accepted e reading h = fails (acceptsAs format s p) e (reads-accepts reading h .0)
-
-  accepted-not : NotAt format s p → acceptsAs format s p ≡ false
-  accepted-not h = is-false (acceptsAs format s p) (λ t. h (readingIn format (windowAt format s p)) (accepts-reads t))
-
-module _ (s : List ℕ) (p : ℕ) where
-  -- read accepts there as the format's
-  format-accepts : acceptsAt s p ≡ true → T (acceptsAs (formatAt s p) s p)
-  unfolding acceptsAt formatAt
-  format-accepts e = go (acceptsAs Long s p) refl (acceptsAs Short s p) refl
-    where
-      go : (l : Bool) → acceptsAs Long s p ≡ l → (t : Bool) → acceptsAs Short s p ≡ t → T (acceptsAs (formatAt s p) s p)
-      go true f t g = subst⁻¹ (λ (x : Format). T (acceptsAs x s p)) (long-there s p f .1) (holds (acceptsAs Long s p) f)
-      go false f true g = subst⁻¹ (λ (x : Format). T (acceptsAs x s p)) (short-there s p f g .1) (holds (acceptsAs Short s p) g)
-      go false f false g = absurd (fails (acceptsAt s p) (neither-there s p f g) (holds (acceptsAt s p) e))
-
-  -- neither format is accepted where none is
-  none-accepts : acceptsAt s p ≡ false → (format : Format) → acceptsAs format s p ≡ false
-  unfolding acceptsAt
-  none-accepts e format = is-false (acceptsAs format s p) (λ t. go format t (acceptsAs Long s p) refl (acceptsAs Short s p) refl)
-    where
-      go : (x : Format) → T (acceptsAs x s p) → (l : Bool) → acceptsAs Long s p ≡ l → (t : Bool) → acceptsAs Short s p ≡ t → ⊥
-      go x h true f t g = fails (acceptsAt s p) e (holds (acceptsAt s p) (long-there s p f .0))
-      go x h false f true g = fails (acceptsAt s p) e (holds (acceptsAt s p) (short-there s p f g .0))
-      go Long h false f false g = fails (acceptsAs Long s p) f h
-      go Short h false f false g = fails (acceptsAs Short s p) g h
 
 -- ---- what an answer tells
 
