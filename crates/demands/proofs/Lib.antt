@@ -7,3 +7,4 @@ pub mod ShortFromLong
 pub mod LongFromShort
 pub mod Demand3
 pub mod Sheet
+pub mod SomeBlock
