@@ -13,7 +13,7 @@
  *     the length at most PTRDIFF_MAX;
  *   - that an output overlaps no input;
  *   - that no other thread writes a buffer, or reads an output, during a call.
- * That these declarations and fields are those of the library's source,
+ * That these declarations, fields and numbers are those of the library's source,
  * crates/balise/src/lib.rt and specs/AsNumber.antt, is tested and not proved.
  */
 #ifndef BALISE_H
@@ -92,20 +92,20 @@ uint64_t balise_search(const uint8_t *capture, size_t capture_len);
 #define BALISE_WINDOW_BITS(format) ((format) == BALISE_LONG ? 1100 : 462)
 #define BALISE_CAPTURE_LIMIT 7500
 
-/* ---- refusals: the lowest that applies */
+/* ---- refusals: the lowest that applies, as BALISE_NUMBER gives it */
 
-#define BALISE_LENGTH 1        /* the length fits no format, or is over the limit */
-#define BALISE_NOT_A_BIT 2     /* a byte other than 0 or 1 */
-#define BALISE_OUTPUT_SHORT 3  /* the output is too short */
-#define BALISE_NO_PAIR 4       /* no pair gives a proper telegram */
-#define BALISE_ENDS_DIFFER 5   /* the ends of the window differ */
-#define BALISE_NOT_DIVISIBLE 6 /* not divisible by g */
-#define BALISE_NO_TURN 7       /* no turn has this remainder; in check, not turn 0 */
-#define BALISE_CONTROL 8       /* the control bits are not 0, 0, 1 */
-#define BALISE_NOT_A_WORD 9    /* a word is not in the table */
-#define BALISE_OFF_STEP 10     /* condition 2 fails */
-#define BALISE_REPEATING 11    /* condition 3 fails */
-#define BALISE_THINNED 12      /* condition 4 fails */
-#define BALISE_NO_PLACE 13     /* no place of the capture reads */
+#define BALISE_REFUSED_LENGTH 1        /* the length fits no format, or is over the limit */
+#define BALISE_REFUSED_NOT_BIT 2       /* a byte other than 0 or 1 */
+#define BALISE_REFUSED_OUTPUT_SHORT 3  /* the output is too short */
+#define BALISE_REFUSED_NO_PAIR 4       /* no pair gives a proper telegram */
+#define BALISE_REFUSED_ENDS_DIFFER 5   /* the ends of the window differ */
+#define BALISE_REFUSED_NOT_DIVISIBLE 6 /* not divisible by g */
+#define BALISE_REFUSED_NO_TURN 7       /* no turn has this remainder; in check, not turn 0 */
+#define BALISE_REFUSED_CONTROL 8       /* the control bits are not 0, 0, 1 */
+#define BALISE_REFUSED_NOT_WORD 9      /* a word is not in the table */
+#define BALISE_REFUSED_OFF_STEP 10     /* condition 2 fails */
+#define BALISE_REFUSED_REPEATING 11    /* condition 3 fails */
+#define BALISE_REFUSED_THINNED 12      /* condition 4 fails */
+#define BALISE_REFUSED_NO_PLACE 13     /* no place of the capture reads */
 
 #endif

@@ -1,7 +1,7 @@
--- `Places` has the order of the tries by places, `Attempts` what one try tells, `Answers` what the whole search answers, `Passing`
--- the places gone through one by one, `FirstPlace` the theorem: the first place at which read accepts.
+-- `Exact` has the theorems `searches` and `search-reads`; `Places` the windows of a capture and the first place, `Attempts` one try, `Found`
+-- what the tries at a place tell, `Steps` the answers by the tables.
 pub mod Places
 pub mod Attempts
-pub mod Answers
-pub mod Passing
-pub mod FirstPlace
+pub mod Found
+pub mod Steps
+pub mod Exact

@@ -1,149 +1,107 @@
--- The tries in order and the places that they are at: the first try that accepts is at the first place that accepts, long before short.
--- Assumes nothing.
-use mathlib.Core.Path.{_≡_, refl, ap, ap₂, _∙_, sym}
-use mathlib.Core.Bool.{Bool, true, false, cond}
-use mathlib.Core.List.{List}
-use mathlib.Core.Logic.{⊎-elim}
-use Prim.Native.Nat.{ℕ, _+_, _*_, _/_, _%_, _≤_, _<_}
-use native.Mathlib.Nat.{eq-or-lt-of-le}
+-- The windows of a capture, and the places at which read accepts. Assumes nothing.
+use mathlib.Core.Path.{_≡_, refl, sym, ap, subst⁻¹, _∙_}
+use mathlib.Core.Bool.{Bool, true, false, _||_}
+use mathlib.Core.List.{List, []}
+use Prim.Native.Nat.{ℕ, _+_, _-_, _≤_, _<_}
 use native.Mathlib.Omega.{arith}
-use borrow.Author.Tests.{eqb-true, eqb-false, eq-eqb, ne-eqb, leb-true, lt-leb}
-use lib.Dec.{eqb, leb, lit≤}
-use lib.ListN.{length}
-use Rattle.bits.specs.Bits.{both}
+use borrow.Author.Tests.{le-leb, lt-leb, leb-true, leb-false}
+use lib.Dec.{T, leb, lit≤}
+use lib.ListN.{length, take, drop, length-drop}
+use lib.Seq.{length-take-le}
+use Rattle.bits.specs.Bits.{allBits}
 use Rattle.bits.specs.Search.{found, none}
-use Rattle.bits.proofs.First.{first-found, first-missing, found-first, missing-first}
+use Rattle.bits.proofs.AllBits.{allBits-take, allBits-drop}
+use Rattle.bits.proofs.First.{NonePasses, found-first, missing-first}
+use Rattle.bits.proofs.Tests.{holds, is-true, is-false}
 use Rattle.formats.specs.declared.format.Format.{Format}
 use Rattle.formats.specs.declared.format.Format.the-variants.{Long, Short}
 use Rattle.formats.specs.Numbers.{long, short, numbersOf, windowBits}
-use Rattle.captures.specs.Captures.{readAt, isRead, accepts, triedFormat, acceptsTry, firstTry}
+use Rattle.reader.proofs.Laws.{reads-size}
+use Rattle.captures.specs.Captures.{windowAt, acceptsAs, acceptsAt, firstPlace, formatAt}
 
--- ---- the try of a format at a place
-
-abbrev pub tryOf : Format → ℕ → ℕ
-tryOf Long p = 2 * p
-tryOf Short p = 2 * p + 1
-
-pub tried : (x : Format) (p : ℕ) → triedFormat (tryOf x p) ≡ x
-tried Long p = ap (λ (even : Bool). cond even Long Short) (eq-eqb (2 * p % 2) 0 (omega arith))
-tried Short p = ap (λ (even : Bool). cond even Long Short) (ne-eqb ((2 * p + 1) % 2) 0 (omega arith))
-
-pub tried-place : (x : Format) (p : ℕ) → tryOf x p / 2 ≡ p
-tried-place Long p = omega arith
-tried-place Short p = omega arith
-
-accepts-try : (s : List ℕ) (x : Format) (p : ℕ) → acceptsTry s (tryOf x p) ≡ accepts x s p
-unfolding acceptsTry
-accepts-try s x p = ap₂ (λ (y : Format) (k : ℕ). accepts y s k) (tried x p) (tried-place x p)
-
--- every try is of some format at some place
-pub record TryAt (q : ℕ) : Type 0 where
-  pub format : Format
-  pub place : ℕ
-  pub is : q ≡ tryOf format place
-
-pub try-at : (q : ℕ) → TryAt q
-try-at q = go (eqb (q % 2) 0) refl
-  where
-    go : (b : Bool) → eqb (q % 2) 0 ≡ b → TryAt q
-    go true e = record { format = Long; place = q / 2; is = omega (arith, eqb-true (q % 2) 0 e) }
-    go false e = record { format = Short; place = q / 2; is = omega (arith, eqb-false (q % 2) 0 e) }
-
--- a try at an earlier place comes earlier
-earlier-place : (x y : Format) (j p : ℕ) → j < p → tryOf y j < tryOf x p
-earlier-place Long Long j p h = omega arith
-earlier-place Long Short j p h = omega arith
-earlier-place Short Long j p h = omega arith
-earlier-place Short Short j p h = omega arith
-
--- ---- the tests by places
-
--- no window is shorter than a short one or longer than a long one
-pub window-least : (x : Format) → windowBits short ≤ windowBits (numbersOf x)
+-- no window is shorter than a short one
+pub window-least : (format : Format) → windowBits short ≤ windowBits (numbersOf format)
 window-least Long = lit≤ tt
 window-least Short = lit≤ tt
 
-pub window-most : (x : Format) → windowBits (numbersOf x) ≤ windowBits long
-window-most Long = lit≤ tt
-window-most Short = lit≤ tt
+-- no block is longer than a long one
+pub block-most : (format : Format) → numbersOf format .m ≤ long .m
+block-most Long = lit≤ tt
+block-most Short = lit≤ tt
 
--- the whole window fits where it is accepted, and is not accepted where it does not fit
-pub accepts-fits : (x : Format) (s : List ℕ) (p : ℕ) → accepts x s p ≡ true → p + windowBits (numbersOf x) ≤ length s
-unfolding accepts
-accepts-fits x s p e = leb-true (p + windowBits (numbersOf x)) (length s) (go (leb (p + windowBits (numbersOf x)) (length s)) (isRead (readAt x s p)) e)
-  where
-    go : (a b : Bool) → both a b ≡ true → a ≡ true
-    go true b e = refl
-    go false b e = e
+-- ---- a format's window at a place
 
-pub too-far : (x : Format) (s : List ℕ) (p : ℕ) → length s < p + windowBits (numbersOf x) → accepts x s p ≡ false
-unfolding accepts
-too-far x s p h = ap (λ (b : Bool). both b (isRead (readAt x s p))) (lt-leb (p + windowBits (numbersOf x)) (length s) h)
+module _ (format : Format) (s : List ℕ) (p : ℕ) where
+  pub window-there : p + windowBits (numbersOf format) ≤ length s → windowAt format s p ≡ take (windowBits (numbersOf format)) (drop p s)
+  unfolding windowAt
+  window-there h = rw (le-leb (p + windowBits (numbersOf format)) (length s) h)
 
--- the format x is accepted at p, nothing at an earlier place, and no long window at p if x is short
-pub record FirstAt (s : List ℕ) (p : ℕ) (x : Format) : Type 0 where
-  pub accepted : accepts x s p ≡ true
-  pub earlier : (j : ℕ) → j < p → (y : Format) → accepts y s j ≡ false
-  pub longFirst : x ≡ Short → accepts Long s p ≡ false
+  pub window-empty : length s < p + windowBits (numbersOf format) → windowAt format s p ≡ []
+  unfolding windowAt
+  window-empty h = rw (lt-leb (p + windowBits (numbersOf format)) (length s) h)
 
--- nothing is accepted
-abbrev pub NoneAt : List ℕ → Type 0
-NoneAt s = (p : ℕ) (x : Format) → accepts x s p ≡ false
+  -- the part of the capture that is lent
+  pub window-lent : (size : ℕ) → size ≡ windowBits (numbersOf format) → p + windowBits (numbersOf format) ≤ length s
+      → take (p + size - p) (drop p s) ≡ windowAt format s p
+  window-lent size e fits =
+      let count : p + size - p ≡ windowBits (numbersOf format) = omega arith in
+      ap (λ (k : ℕ). take k (drop p s)) count ∙ sym (window-there fits)
 
-module _ (s : List ℕ) where
-  -- what is tried before the first place that accepts fails
-  before : (x y : Format) (k p : ℕ) → FirstAt s p x → tryOf y k < tryOf x p → accepts y s k ≡ false
-  before Long Long k p f l = f .earlier k (omega arith) Long
-  before Long Short k p f l = f .earlier k (omega arith) Short
-  before Short Short k p f l = f .earlier k (omega arith) Short
-  before Short Long k p f l =
-      ⊎-elim (λ (e : k ≡ p). rw e (f .longFirst refl)) (λ (h : k < p). f .earlier k h Long) (eq-or-lt-of-le (omega arith))
+  pub window-length : p + windowBits (numbersOf format) ≤ length s → length (windowAt format s p) ≡ windowBits (numbersOf format)
+  window-length h =
+      ap length (window-there h) ∙ length-take-le (windowBits (numbersOf format)) (drop p s) (omega (arith, length-drop p s))
 
-  within : (x : Format) (p : ℕ) → p + windowBits (numbersOf x) ≤ length s → tryOf x p < 0 + 2 * length s
-  within Long p h = omega arith
-  within Short p h = omega arith
-
-  -- the first place that accepts is the first try that does
-  pub first-try : (p : ℕ) (x : Format) → FirstAt s p x → firstTry s ≡ found (tryOf x p)
-  unfolding firstTry
-  first-try p x f =
-      found-first (acceptsTry s) 0 (2 * length s) (tryOf x p)
-      (record {
-        from = omega arith;
-        below = within x p (accepts-fits x s p (f .accepted));
-        passed = accepts-try s x p ∙ f .accepted;
-        earlier = λ j h l.
-            let t = try-at j in
-            ap (acceptsTry s) (t .is) ∙ accepts-try s (t .format) (t .place)
-            ∙ before x (t .format) (t .place) p f (rw (t .is) at l);
-      })
-
-  -- and the other way round
-  pub try-first : (p : ℕ) (x : Format) → firstTry s ≡ found (tryOf x p) → FirstAt s p x
-  unfolding firstTry
-  try-first p x e =
-      let f = first-found (acceptsTry s) 0 (2 * length s) (tryOf x p) e in
-      record {
-        accepted = sym (accepts-try s x p) ∙ f .passed;
-        earlier = λ j h y. sym (accepts-try s y j) ∙ f .earlier (tryOf y j) (omega arith) (earlier-place x y j p h);
-        longFirst = λ h. sym (accepts-try s Long p) ∙ f .earlier (tryOf Long p) (omega arith) (rw h (omega arith));
-      }
-
-  -- where nothing is accepted, no try accepts
-  pub none-try : NoneAt s → firstTry s ≡ none
-  unfolding firstTry
-  none-try h =
-      missing-first (acceptsTry s) 0 (2 * length s)
-      (λ j _ _. let t = try-at j in ap (acceptsTry s) (t .is) ∙ accepts-try s (t .format) (t .place) ∙ h (t .place) (t .format))
-
-  -- and the other way round: a try past the last one has no window that fits
-  pub try-none : firstTry s ≡ none → NoneAt s
-  unfolding firstTry
-  try-none e p x = go (leb (p + windowBits (numbersOf x)) (length s)) refl
+  -- what is not empty is whole
+  pub window-some : (length (windowAt format s p) ≡ 0 → ⊥) → p + windowBits (numbersOf format) ≤ length s
+  window-some some = go (leb (p + windowBits (numbersOf format)) (length s)) refl
     where
-      go : (b : Bool) → leb (p + windowBits (numbersOf x)) (length s) ≡ b → accepts x s p ≡ false
-      go true h =
-          sym (accepts-try s x p)
-          ∙ first-missing (acceptsTry s) 0 (2 * length s) e (tryOf x p) (omega arith)
-          (within x p (leb-true (p + windowBits (numbersOf x)) (length s) h))
-      go false h = unfold accepts in ap (λ (b : Bool). both b (isRead (readAt x s p))) h
+      go : (b : Bool) → leb (p + windowBits (numbersOf format)) (length s) ≡ b → p + windowBits (numbersOf format) ≤ length s
+      go true f = leb-true (p + windowBits (numbersOf format)) (length s) f
+      go false f = absurd (some (ap length (window-empty (leb-false (p + windowBits (numbersOf format)) (length s) f))))
+
+  pub window-bits : T (allBits s) → p + windowBits (numbersOf format) ≤ length s → T (allBits (windowAt format s p))
+  window-bits h fits = subst⁻¹ (λ (w : List ℕ). T (allBits w)) (window-there fits) (allBits-take (windowBits (numbersOf format)) (drop p s) (allBits-drop p s h))
+
+  -- what is accepted fits
+  pub accepts-fits : T (acceptsAs format s p) → p + windowBits (numbersOf format) ≤ length s
+  unfolding acceptsAs
+  accepts-fits h = window-some (λ e. omega (arith, e, window-least format, reads-size format (windowAt format s p) h))
+
+  pub far-refused : length s < p + windowBits (numbersOf format) → acceptsAs format s p ≡ false
+  far-refused h = is-false (acceptsAs format s p) (λ t. absurd (omega (arith, accepts-fits t)))
+
+-- ---- the first place
+
+module _ (s : List ℕ) (p : ℕ) where
+  pub long-there : acceptsAs Long s p ≡ true → (acceptsAt s p ≡ true) × (formatAt s p ≡ Long)
+  unfolding acceptsAt formatAt
+  long-there e = (rw e, rw e)
+
+  pub short-there : acceptsAs Long s p ≡ false → acceptsAs Short s p ≡ true → (acceptsAt s p ≡ true) × (formatAt s p ≡ Short)
+  unfolding acceptsAt formatAt
+  short-there e f = (rw (e, f), rw e)
+
+  pub neither-there : acceptsAs Long s p ≡ false → acceptsAs Short s p ≡ false → acceptsAt s p ≡ false
+  unfolding acceptsAt
+  neither-there e f = rw (e, f)
+
+-- read accepts at none of the places below p
+abbrev pub Passed : List ℕ → ℕ → Type 0
+Passed s p = (j : ℕ) → j < p → acceptsAt s j ≡ false
+
+-- it accepts at p, and not before
+pub found-there : (s : List ℕ) (p : ℕ) → Passed s p → acceptsAt s p ≡ true → p < length s → firstPlace s ≡ found p
+unfolding firstPlace
+found-there s p passed e below =
+    found-first (acceptsAt s) 0 (length s) p (record { from = omega arith; below = omega arith; passed = e; earlier = λ j from. passed j })
+
+-- no window fits any more
+pub none-there : (s : List ℕ) (p : ℕ) → Passed s p → length s < p + windowBits short → firstPlace s ≡ none
+unfolding firstPlace
+none-there s p passed over = missing-first (acceptsAt s) 0 (length s) (λ j from below. by-place j (leb p j) refl)
+  where
+    by-place : (j : ℕ) (b : Bool) → leb p j ≡ b → acceptsAt s j ≡ false
+    by-place j true e =
+        let after = leb-true p j e in
+        neither-there s j (far-refused Long s j (omega (arith, window-least Long))) (far-refused Short s j (omega arith))
+    by-place j false e = passed j (leb-false p j e)

@@ -1,76 +1,72 @@
 -- What searching a capture answers, and the stretch that it hands back (document 01, "Search, reading and place", and "When the bench
--- says no": refusals 1, 2 and 13, the lowest that applies).
+-- says no").
 -- Assumes nothing.
-use Prim.Native.Nat.{ℕ, _+_, _*_, _/_, _%_}
-use mathlib.Core.Bool.{Bool, true, false, cond}
-use mathlib.Core.List.{List, [], _∷_}
-use lib.Dec.{eqb, leb}
-use lib.ListN.{length, take, drop, replicate}
-use Rattle.bits.specs.Bits.{both, allBits}
-use Rattle.bits.specs.Search.{First, found, none, firstOf}
+use Prim.Native.Nat.{ℕ, _+_}
+use mathlib.Core.Bool.{Bool, cond, not, _||_}
+use mathlib.Core.List.{List, [], _∷_, _++_}
+use lib.Dec.{leb}
+use lib.ListN.{length, take, drop}
+use Rattle.bits.specs.Bits.{allBits}
+use Rattle.bits.specs.Search.{First, firstOf, isFound, whichFound}
 use Rattle.formats.specs.declared.format.Format.{Format}
 use Rattle.formats.specs.declared.format.Format.the-variants.{Long, Short}
-use Rattle.formats.specs.declared.refusal.Refusal.the-variants.{Length, NotBit, NoPlace}
-use Rattle.formats.specs.Numbers.{numbersOf, windowBits}
-use Rattle.formats.specs.Outcome.{orRefuse}
-use Rattle.formats.specs.AnswerValues.{refusalValues}
-use Rattle.reader.specs.declared.ReadAnswer.{ReadAnswer}
-use Rattle.reader.specs.declared.ReadAnswer.the-variants.{Read, Refused as NotRead}
-use Rattle.reader.specs.Reads.{readingValues, readOf}
+use Rattle.formats.specs.Numbers.{long, numbersOf, windowBits}
+use Rattle.refusals.specs.declared.Refusal.{Refusal}
+use Rattle.refusals.specs.declared.Refusal.the-variants.{Length, NotBit, OutputShort, NoPlace}
+use Rattle.refusals.specs.Refused.{refusalNumber}
+use Rattle.refusals.specs.Table.{Row, _when_, verdict, answerBy}
+use Rattle.refusals.specs.Outcome.{Outcome, outcome}
+use Rattle.reader.specs.Reads.{readingValues, readingIn, userBitsIn, readsAs}
 use Rattle.captures.specs.declared.Capture.{Capture}
 use Rattle.captures.specs.declared.Capture.the-variants.{Found, Refused}
 
--- the values of each answer: 0, the place, and those of the reading; or those of the refusal
+-- the values of each answer: the number, 0 where nothing is refused, those of the reading, and the place
 abbrev pub captureValues : Capture → List ℕ
-captureValues (Found p reading) = 0 ∷ p ∷ readingValues reading
-captureValues (Refused refusal) = refusalValues refusal
+captureValues (Found p reading) = 0 ∷ readingValues reading ++ (p ∷ [])
+captureValues (Refused refusal) = refusalNumber refusal ∷ []
 
 -- a capture has at most this many bits
 abbrev pub captureLimit : ℕ
 captureLimit = 7500
 
--- the format's window from place p on
+-- the format's window from place p on; empty where all of it does not fit in the capture
 unfoldable pub windowAt : Format → List ℕ → ℕ → List ℕ
-windowAt format s p = take (windowBits (numbersOf format)) (drop p s)
+windowAt format s p =
+    let size = windowBits (numbersOf format) in
+    cond (leb (p + size) (length s)) (take size (drop p s)) []
 
--- what reading that window answers, lent room for either format
-unfoldable pub readAt : Format → List ℕ → ℕ → ReadAnswer
-readAt format s p = readOf (windowAt format s p) (replicate 830 0) .answer
+-- read, lent room, accepts it
+unfoldable pub acceptsAs : Format → List ℕ → ℕ → Bool
+acceptsAs format s p = readsAs format (windowAt format s p)
 
-abbrev pub isRead : ReadAnswer → Bool
-isRead (Read reading) = true
-isRead (NotRead refusal) = false
+-- as a long window or as a short one
+unfoldable pub acceptsAt : List ℕ → ℕ → Bool
+acceptsAt s p = acceptsAs Long s p || acceptsAs Short s p
 
--- the whole window still fits in the capture, and read accepts it
-unfoldable pub accepts : Format → List ℕ → ℕ → Bool
-accepts format s p = both (leb (p + windowBits (numbersOf format)) (length s)) (isRead (readAt format s p))
+-- the first place at which it does
+unfoldable pub firstPlace : List ℕ → First
+firstPlace s = firstOf (acceptsAt s) 0 (length s)
 
--- the tries in order: places from 0 up, long before short at one place. Try q is at place q / 2, long if q is even
-abbrev pub triedFormat : ℕ → Format
-triedFormat q = cond (eqb (q % 2) 0) Long Short
+-- long before short at one place
+unfoldable pub formatAt : List ℕ → ℕ → Format
+formatAt s p = cond (acceptsAs Long s p) Long Short
 
-unfoldable pub acceptsTry : List ℕ → ℕ → Bool
-acceptsTry s q = accepts (triedFormat q) s (q / 2)
+unfoldable pub windowFound : List ℕ → ℕ → List ℕ
+windowFound s p = windowAt (formatAt s p) s p
 
--- the first try that accepts
-unfoldable pub firstTry : List ℕ → First
-firstTry s = firstOf (acceptsTry s) 0 (2 * length s)
+unfoldable pub foundAt : List ℕ → ℕ → Capture
+foundAt s p = Found p (readingIn (formatAt s p) (windowFound s p))
 
--- the reading there
-abbrev pub foundAs : ℕ → ReadAnswer → Capture
-foundAs p (Read reading) = Found p reading
-foundAs p (NotRead refusal) = Refused refusal
+-- when each refusal applies to a capture
+unfoldable pub searchTable : List ℕ → List (Row Refusal)
+searchTable s =
+    Length when not (leb (length s) captureLimit)
+    ∷ NotBit when not (allBits s)
+    ∷ NoPlace when not (isFound (firstPlace s))
+    ∷ []
 
-abbrev pub foundTry : List ℕ → First → Capture
-foundTry s (found q) = foundAs (q / 2) (readAt (triedFormat q) s (q / 2))
-foundTry s none = Refused NoPlace
-
--- any capture: refusals 1 and 2, then the first try that accepts, or refusal 13
 unfoldable pub searchOf : List ℕ → Capture
-searchOf s =
-    orRefuse (leb (length s) captureLimit) (Refused Length)
-    (orRefuse (allBits s) (Refused NotBit)
-    (foundTry s (firstTry s)))
+searchOf s = answerBy Refused (foundAt s (whichFound (firstPlace s))) (verdict (searchTable s))
 
 -- the accepted stretch of the capture, or an empty one
 abbrev pub stretchAs : List ℕ → Capture → List ℕ
@@ -79,3 +75,23 @@ stretchAs s (Refused refusal) = []
 
 unfoldable pub stretchOf : List ℕ → List ℕ
 stretchOf s = stretchAs s (searchOf s)
+
+-- ---- the search that also writes the user bits of the window found; the output has room for those of either format
+
+unfoldable pub searchReadTable : ℕ → List ℕ → List (Row Refusal)
+searchReadTable room s =
+    Length when not (leb (length s) captureLimit)
+    ∷ NotBit when not (allBits s)
+    ∷ OutputShort when not (leb (long .m) room)
+    ∷ NoPlace when not (isFound (firstPlace s))
+    ∷ []
+
+unfoldable pub foundOut : List ℕ → ℕ → List ℕ → Outcome Capture
+foundOut s p out =
+    let format = formatAt s p in
+    outcome (foundAt s p) (userBitsIn format (windowFound s p) ++ drop (numbersOf format .m) out)
+
+unfoldable pub searchReadOf : List ℕ → List ℕ → Outcome Capture
+searchReadOf s out =
+    answerBy (λ (r : Refusal). outcome (Refused r) out) (foundOut s (whichFound (firstPlace s)) out)
+    (verdict (searchReadTable (length out) s))

@@ -1,133 +1,110 @@
 -- Checking is exact (document 01, "When the bench says no" and "What the bench can be held to"): it accepts the proper telegrams and no
 -- others, and each refusal number is given exactly where it is the lowest that applies. Assumes nothing.
-use Prim.Native.Nat.{ℕ, suc, _≤_}
+use Prim.Native.Nat.{ℕ}
 use mathlib.Core.Path.{_≡_, refl, sym, ap, subst, _∙_}
-use mathlib.Core.Bool.{Bool, true, false}
-use mathlib.Core.Logic.{_↔_, _⊎_, inl, inr}
+use mathlib.Core.Bool.{Bool, true, false, not}
+use mathlib.Core.Logic.{_↔_}
 use mathlib.Core.List.{List}
-use native.Mathlib.Omega.{arith}
-use lib.Dec.{T, lit≤}
+use borrow.Author.Tests.{eqb-true, not-false}
+use lib.Dec.{T, eqb}
 use lib.ListN.{length}
+use Rattle.bits.specs.Bits.{allBits, same}
+use Rattle.bits.proofs.Tests.{clash, holds, is-true}
 use Rattle.formats.specs.declared.format.Format.{Format}
-use Rattle.formats.specs.declared.refusal.Refusal.{Refusal}
-use Rattle.formats.specs.declared.refusal.Refusal.the-variants.{Length, NotBit, OutputShort, NoPair, EndsDiffer, NotDivisible, NoTurn, Control, NotWord, OffStep, Repeating, Thinned, NoPlace}
 use Rattle.formats.specs.Numbers.{numbersOf}
-use Rattle.formats.specs.Refused.{refusalNumber, Lowest}
-use Rattle.formats.specs.Outcome.{orRefuse}
-use Rattle.formats.proofs.Lowest.{refusalAt, NoneBelow, one-up, lowest-one, past, test}
-use Rattle.conditions.specs.Conditions.{proper}
+use Rattle.refusals.specs.declared.Refusal.{Refusal}
+use Rattle.refusals.specs.Refused.{refusalNumber}
+use Rattle.refusals.specs.Table.{Verdict, refused, accepted, verdict, answerBy, RefusesBy, risesAbove}
+use Rattle.refusals.proofs.Table.{NoRow, accepted-no-row, passed, all-passed, refuses-by}
+use Rattle.cyclic.specs.Check.{divisible, unturned}
+use Rattle.telegrams.specs.Telegram.{control}
+use Rattle.telegrams.specs.Fields.{controlOf, allWords}
+use Rattle.conditions.specs.Conditions.{offStepWithin, notRepeating, thinnedWithin, proper}
+use Rattle.conditions.proofs.Proper.{proper-parts, proper-from}
 use Rattle.checker.specs.declared.Checked.{Checked}
 use Rattle.checker.specs.declared.Checked.the-variants.{Proper, Refused}
-use Rattle.checker.specs.Checking.{checkAs, checkOf}
-use Rattle.checker.specs.Applies.{CheckApplies}
+use Rattle.checker.specs.Checking.{formatOf, conditionTable, checkTable, checkAs, checkOf}
 use Rattle.checker.specs.Checks.{Checks}
-use Rattle.checker.proofs.Lengths.{fit-or-none, one-format, fits-as, fits-none}
-use Rattle.checker.proofs.Steps.{length-refused, length-fits}
-use Rattle.checker.proofs.Tests.{testOf, test-fails, failed-applies, proper-size, proper-tests, tests-proper}
+use Rattle.checker.proofs.Steps.{decided, any-bytes, format-is}
+use Rattle.checker.proofs.WellFormed.{formed, well-formed, form-passed}
 
--- no refusal of check has a number above 12
-up-to-12 : (b : List ℕ) (q : Refusal) → CheckApplies b q → refusalNumber q ≤ 12
-up-to-12 b Length a = lit≤ tt
-up-to-12 b NotBit a = lit≤ tt
-up-to-12 b OutputShort a = absurd a
-up-to-12 b (NoPair tried) a = absurd a
-up-to-12 b EndsDiffer a = absurd a
-up-to-12 b NotDivisible a = lit≤ tt
-up-to-12 b NoTurn a = lit≤ tt
-up-to-12 b Control a = lit≤ tt
-up-to-12 b NotWord a = lit≤ tt
-up-to-12 b OffStep a = lit≤ tt
-up-to-12 b Repeating a = lit≤ tt
-up-to-12 b Thinned a = lit≤ tt
-up-to-12 b NoPlace a = absurd a
+-- ---- refusals
 
-unfailing : (t : Bool) → ((T t → ⊥) → ⊥) → T t
-unfailing true h = tt
-unfailing false h = h (λ x. x)
+-- what an answer says
+abbrev said : Checked → Verdict Refusal
+said (Proper format) = accepted
+said (Refused r) = refused r
 
--- ---- the answer is right
+refused-only : (a : Checked) (r : Refusal) → said a ≡ refused r → a ≡ Refused r
+refused-only (Proper format) r e = clash cc
+refused-only (Refused q) r e = cc
 
-module _ (b : List ℕ) where
-  -- what the answer means
-  abbrev Right : Checked → Type 0
-  Right (Refused r) = Lowest (CheckApplies b) r
-  Right (Proper format) = (length b ≡ numbersOf format .n) × ((q : Refusal) → CheckApplies b q → ⊥)
+rises : (format : Format) (b : List ℕ) → T (risesAbove refusalNumber 0 (checkTable format b))
+unfolding risesAbove checkTable conditionTable
+rises format b = tt
 
-  lowest-right : (r : Refusal) → CheckApplies b r → NoneBelow (CheckApplies b) (refusalNumber r) → Right (Refused r)
-  lowest-right r a least = record { applies = a; lowest = least }
+verdict-said : (format : Format) (v : Verdict Refusal) → said (answerBy Refused (Proper format) v) ≡ v
+verdict-said format (refused r) = refl
+verdict-said format accepted = refl
 
-  count : (tried : ℕ) → CheckApplies b (NoPair tried) → tried ≡ 4194304
-  count tried a = absurd a
+said-is : (b : List ℕ) → said (checkOf b) ≡ verdict (checkTable (formatOf b) b)
+unfolding checkOf checkAs
+said-is b = verdict-said (formatOf b) (verdict (checkTable (formatOf b) b))
 
-  module _ (format : Format) (size : length b ≡ numbersOf format .n) where
-    -- past the test of a refusal, no refusal with its number or a lower one applies
-    tested : (x : Refusal) → refusalAt (refusalNumber x) ≡ x → NoneBelow (CheckApplies b) (refusalNumber x)
-        → (rest : Checked) → (NoneBelow (CheckApplies b) (suc (refusalNumber x)) → Right rest) → Right (orRefuse (testOf format b x) (Refused x) rest)
-    tested x known least rest next =
-        test (CheckApplies b) count Right Refused lowest-right x known least (testOf format b x) (λ t a. test-fails format b size x a t)
-        (failed-applies format b size x) rest (λ t. next)
+refuses : (b : List ℕ) → RefusesBy refusalNumber Refused (checkTable (formatOf b) b) (checkOf b)
+refuses b =
+    refuses-by Refused said (λ r. refl) refused-only refusalNumber (checkTable (formatOf b) b) (rises (formatOf b) b) (checkOf b) (said-is b)
 
-    -- refusals 2 and 6 to 12, in order
-    right-as : NoneBelow (CheckApplies b) 2 → Right (checkAs format b)
-    unfolding checkAs
-    right-as least₂ =
-        tested NotBit refl least₂ _
-        (λ least₃.
-        let least₄ = past (CheckApplies b) count OutputShort refl (λ a. a) least₃ in
-        let least₅ = past (CheckApplies b) count (NoPair 4194304) refl (λ a. a) least₄ in
-        let least₆ = past (CheckApplies b) count EndsDiffer refl (λ a. a) least₅ in
-        tested NotDivisible refl least₆ _
-        (λ least₇. tested NoTurn refl least₇ _
-        (λ least₈. tested Control refl least₈ _
-        (λ least₉. tested NotWord refl least₉ _
-        (λ least₁₀. tested OffStep refl least₁₀ _
-        (λ least₁₁. tested Repeating refl least₁₁ _
-        (λ least₁₂. tested Thinned refl least₁₂ _
-        (λ above. (size, λ q a. omega (arith, above q a, up-to-12 b q a))))))))))
+-- ---- the proper telegrams
 
-  -- refusal 1, and then the others
-  right : Right (checkOf b)
-  right = go (fit-or-none (length b))
-    where
-      go : ((format : Format) × (length b ≡ numbersOf format .n)) ⊎ ((format : Format) → length b ≡ numbersOf format .n → ⊥)
-          → Right (checkOf b)
-      go (inl (format, size)) =
-          subst Right (sym (length-fits format b (fits-as format (length b) size)))
-          (right-as format size (past (CheckApplies b) count Length refl (λ a. a format size) (λ q a. one-up q)))
-      go (inr none) =
-          subst Right (sym (length-refused b (fits-none (length b) none))) (lowest-right Length none (λ q a. one-up q))
+-- a test that does not refuse holds
+held : (t : Bool) → not t ≡ false → T t
+held t e = holds t (not-false t e)
 
--- ---- the theorem
+no-row-proper : (format : Format) (b : List ℕ) → NoRow (checkTable format b) → T (proper format b)
+unfolding NoRow checkTable conditionTable
+no-row-proper format b (size, (bits, (divides, (turn, (controlled, (words, (within, (repeats, (thinned, rest))))))))) =
+    let F = numbersOf format in
+    proper-from format b
+    record {
+      well-formed = well-formed format b
+          record {
+            size = eqb-true (length b) (F .n) (not-false (eqb (length b) (F .n)) size);
+            bits = held (allBits b) bits;
+            divides = held (divisible F b) divides;
+            turn = held (unturned F b) turn;
+            has-control = held (same (controlOf F b) control) controlled;
+            all-words = held (allWords (F .words) b) words;
+          };
+      off-step = held (offStepWithin format b) within;
+      not-repeating = held (notRepeating format b) repeats;
+      thinned = held (thinnedWithin format b) thinned;
+    }
 
--- what is accepted has its format's length, and no refusal applies to it
-pub accepted : (format : Format) (b : List ℕ) → checkOf b ≡ Proper format
-    → (length b ≡ numbersOf format .n) × ((q : Refusal) → CheckApplies b q → ⊥)
-accepted format b e = subst (Right b) e (right b)
+accepted-proper : (format : Format) (b : List ℕ) (v : Verdict Refusal) → verdict (checkTable (formatOf b) b) ≡ v
+    → answerBy Refused (Proper (formatOf b)) v ≡ Proper format → T (proper format b)
+accepted-proper format b (refused r) e f = clash cc
+accepted-proper format b accepted e f =
+    let same : formatOf b ≡ format = cc in
+    subst (λ (g : Format). T (proper g b)) same (no-row-proper (formatOf b) b (accepted-no-row (checkTable (formatOf b) b) e))
+
+proper-accepted : (format : Format) (b : List ℕ) → T (proper format b) → checkOf b ≡ Proper format
+unfolding conditionTable
+proper-accepted format b h =
+    let p = proper-parts format b h in
+    any-bytes b
+    ∙ ap (λ (f : Format). checkAs f b) (format-is format b (formed format b (p .well-formed) .size))
+    ∙ decided format b accepted
+    (form-passed format b (p .well-formed) accepted
+    (passed (is-true (offStepWithin format b) (p .off-step))
+    (passed (is-true (notRepeating format b) (p .not-repeating))
+    (passed (is-true (thinnedWithin format b) (p .thinned)) all-passed))))
 
 -- the proper telegrams are accepted, and no others
-pub accepts : (format : Format) (b : List ℕ) → (checkOf b ≡ Proper format) ↔ T (proper format b)
-accepts format b = (forth, λ h. back h (checkOf b) refl (right b))
-  where
-    forth : checkOf b ≡ Proper format → T (proper format b)
-    forth e =
-        let (size, none) = accepted format b e in
-        tests-proper format b size
-        (λ r. unfailing (testOf format b r) (λ h. none r (failed-applies format b size r h)))
-
-    back : T (proper format b) → (a : Checked) → checkOf b ≡ a → Right b a → checkOf b ≡ Proper format
-    back h (Proper f) e (size, none) = e ∙ ap Proper (one-format (length b) f format size (proper-size format b h))
-    back h (Refused r) e l =
-        absurd (test-fails format b (proper-size format b h) r (l .applies) (proper-tests format b h r))
-
--- a refusal is given exactly where it applies and none with a lower number does
-pub refuses : (r : Refusal) (b : List ℕ) → (checkOf b ≡ Refused r) ↔ Lowest (CheckApplies b) r
-refuses r b = (λ e. subst (Right b) e (right b), λ h. back h (checkOf b) refl (right b))
-  where
-    back : Lowest (CheckApplies b) r → (a : Checked) → checkOf b ≡ a → Right b a → checkOf b ≡ Refused r
-    back h (Proper f) e (size, none) = absurd (none r (h .applies))
-    back h (Refused q) e l =
-        e ∙ ap Refused (lowest-one (CheckApplies b) (count b) q r (l .applies) (l .lowest) (h .applies) (h .lowest))
+accepts : (format : Format) (b : List ℕ) → (checkOf b ≡ Proper format) ↔ T (proper format b)
+unfolding checkOf checkAs
+accepts format b = (accepted-proper format b (verdict (checkTable (formatOf b) b)) refl, proper-accepted format b)
 
 -- both, as `Checks` states them
 pub checks : (b : List ℕ) → Checks b
-checks b = record { accepts = λ format. accepts format b; refuses = λ r. refuses r b }
+checks b = record { refuses = refuses b; accepts = λ format. accepts format b }

@@ -3,10 +3,11 @@
 use Prim.Native.Nat.{ℕ}
 use mathlib.Core.Path.{_≡_}
 use mathlib.Core.List.{List}
+use borrow.Author.Tests.{eq-eqb}
 use lib.Dec.{T}
 use lib.ListN.{length}
 use Rattle.bits.specs.Bits.{allBits, same}
-use Rattle.bits.proofs.Both.{both-left, both-right, both-of}
+use Rattle.bits.proofs.And.{and-left, and-right, and-of}
 use Rattle.bits.proofs.Equal.{same-equal, same-of}
 use Rattle.bits.proofs.Tests.{is-true}
 use Rattle.formats.specs.declared.format.Format.{Format}
@@ -18,8 +19,10 @@ use Rattle.telegrams.specs.Telegram.{control}
 use Rattle.telegrams.specs.Fields.{controlOf, allWords, wellFormed}
 use Rattle.telegrams.proofs.Checked.{checked-factors}
 use Rattle.telegrams.proofs.WellFormed.{parts, from-parts}
-use Rattle.checker.specs.Checking.{checkAs}
-use Rattle.checker.proofs.Steps.{fromOffStep, past-bits, past-divisible, past-turn, past-control, past-words}
+use Rattle.refusals.specs.declared.Refusal.{Refusal}
+use Rattle.refusals.specs.Table.{Verdict}
+use Rattle.refusals.proofs.Table.{Decides, passed}
+use Rattle.checker.specs.Checking.{conditionTable, checkTable}
 
 pub record Formed (format : Format) (b : List ℕ) : Type 0 where
   pub size : length b ≡ numbersOf format .n
@@ -37,8 +40,8 @@ formed format b h =
     record {
       size = p .size;
       bits = p .bits;
-      divides = both-left (divisible F b) (unturned F b) factors;
-      turn = both-right (divisible F b) (unturned F b) factors;
+      divides = and-left (divisible F b) (unturned F b) factors;
+      turn = and-right (divisible F b) (unturned F b) factors;
       has-control = same-of (controlOf F b) control (p .control-is);
       all-words = p .all-words;
     }
@@ -46,7 +49,7 @@ formed format b h =
 pub well-formed : (format : Format) (b : List ℕ) → Formed format b → T (wellFormed (numbersOf format) b)
 well-formed format b p =
     let F = numbersOf format in
-    let factors = both-of (divisible F b) (unturned F b) (p .divides) (p .turn) in
+    let factors = and-of (divisible F b) (unturned F b) (p .divides) (p .turn) in
     from-parts F b
     record {
       size = p .size;
@@ -56,17 +59,16 @@ well-formed format b p =
       check = checked-factors F (factsOf format) (sizesOf format) b (p .bits) (p .size) .1 factors;
     }
 
--- the answer is left to the conditions
-pub past-form : (format : Format) (b : List ℕ) → T (wellFormed (numbersOf format) b) → checkAs format b ≡ fromOffStep format b
-past-form format b h =
+-- the tests of refusals 1, 2 and 6 to 9 hold, so the verdict is that of the conditions
+pub form-passed : (format : Format) (b : List ℕ) → T (wellFormed (numbersOf format) b) → (v : Verdict Refusal)
+    → Decides (conditionTable format b) v → Decides (checkTable format b) v
+unfolding checkTable
+form-passed format b h v d =
     let F = numbersOf format in
     let p = formed format b h in
-    past-words format b
-    (past-control format b
-    (past-turn format b
-    (past-divisible format b
-    (past-bits format b (is-true (allBits b) (p .bits)))
-    (is-true (divisible F b) (p .divides)))
-    (is-true (unturned F b) (p .turn)))
-    (is-true (same (controlOf F b) control) (p .has-control)))
-    (is-true (allWords (F .words) b) (p .all-words))
+    passed (eq-eqb (length b) (F .n) (p .size))
+    (passed (is-true (allBits b) (p .bits))
+    (passed (is-true (divisible F b) (p .divides))
+    (passed (is-true (unturned F b) (p .turn))
+    (passed (is-true (same (controlOf F b) control) (p .has-control))
+    (passed (is-true (allWords (F .words) b) (p .all-words)) d)))))

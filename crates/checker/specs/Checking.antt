@@ -1,45 +1,57 @@
--- What checking a telegram answers (document 01, "When the bench says no": refusals 1, 2 and 6 to 12, the lowest that applies).
+-- What checking a telegram answers (document 01, "When the bench says no").
 -- Assumes nothing.
 use Prim.Native.Nat.{ℕ}
+use mathlib.Core.Bool.{not}
 use mathlib.Core.List.{List, [], _∷_}
+use lib.Dec.{eqb}
 use lib.ListN.{length}
 use Rattle.bits.specs.Bits.{allBits, same}
 use Rattle.formats.specs.declared.format.Format.{Format}
-use Rattle.formats.specs.declared.format.Fit.{Fit}
-use Rattle.formats.specs.declared.format.Fit.the-variants.{As, Nothing}
-use Rattle.formats.specs.declared.refusal.Refusal.the-variants.{Length, NotBit, NotDivisible, NoTurn, Control, NotWord, OffStep, Repeating, Thinned}
-use Rattle.formats.specs.Numbers.{long, short, numbersOf, fitOf}
-use Rattle.formats.specs.Outcome.{orRefuse}
-use Rattle.formats.specs.AnswerValues.{formatNumber, refusalValues}
+use Rattle.formats.specs.Numbers.{short, numbersOf, formatFor}
+use Rattle.refusals.specs.declared.Refusal.{Refusal}
+use Rattle.refusals.specs.declared.Refusal.the-variants.{Length, NotBit, NotDivisible, NoTurn, Control, NotWord, OffStep, Repeating, Thinned}
+use Rattle.refusals.specs.Refused.{refusalNumber}
+use Rattle.refusals.specs.Table.{Row, _when_, verdict, answerBy}
+use Rattle.refusals.specs.AnswerValues.{formatNumber}
 use Rattle.cyclic.specs.Check.{divisible, unturned}
 use Rattle.telegrams.specs.Telegram.{control}
 use Rattle.telegrams.specs.Fields.{controlOf, allWords}
-use Rattle.conditions.specs.Conditions.{offStep, notRepeating, thinnedOut}
+use Rattle.conditions.specs.Conditions.{offStepWithin, notRepeating, thinnedWithin}
 use Rattle.checker.specs.declared.Checked.{Checked}
 use Rattle.checker.specs.declared.Checked.the-variants.{Proper, Refused}
 
--- the values of each answer: 0 and the format; or those of the refusal
+-- the values of each answer: the number, 0 where nothing is refused, and the format
 abbrev pub checkedValues : Checked → List ℕ
 checkedValues (Proper format) = 0 ∷ formatNumber format ∷ []
-checkedValues (Refused refusal) = refusalValues refusal
+checkedValues (Refused refusal) = refusalNumber refusal ∷ []
 
--- bytes as many as the format's telegram has bits: refusals 2 and 6 to 12, the lowest that applies
+-- the format that the number of bytes picks
+abbrev pub formatOf : List ℕ → Format
+formatOf b = formatFor (short .n) (length b)
+
+-- when refusals 10, 11 and 12 apply: condition 2, 3 or 4 fails
+unfoldable pub conditionTable : Format → List ℕ → List (Row Refusal)
+conditionTable format b =
+    OffStep when not (offStepWithin format b)
+    ∷ Repeating when not (notRepeating format b)
+    ∷ Thinned when not (thinnedWithin format b)
+    ∷ []
+
+-- when each refusal applies to bytes that are to be the format's telegram
+unfoldable pub checkTable : Format → List ℕ → List (Row Refusal)
+checkTable format b =
+    let F = numbersOf format in
+    Length when not (eqb (length b) (F .n))
+    ∷ NotBit when not (allBits b)
+    ∷ NotDivisible when not (divisible F b)
+    ∷ NoTurn when not (unturned F b)
+    ∷ Control when not (same (controlOf F b) control)
+    ∷ NotWord when not (allWords (F .words) b)
+    ∷ conditionTable format b
+
 unfoldable pub checkAs : Format → List ℕ → Checked
-checkAs format b =
-    orRefuse (allBits b) (Refused NotBit)
-    (orRefuse (divisible (numbersOf format) b) (Refused NotDivisible)
-    (orRefuse (unturned (numbersOf format) b) (Refused NoTurn)
-    (orRefuse (same (controlOf (numbersOf format) b) control) (Refused Control)
-    (orRefuse (allWords (numbersOf format .words) b) (Refused NotWord)
-    (orRefuse (offStep format b) (Refused OffStep)
-    (orRefuse (notRepeating format b) (Refused Repeating)
-    (orRefuse (thinnedOut format b) (Refused Thinned)
-    (Proper format))))))))
+checkAs format b = answerBy Refused (Proper format) (verdict (checkTable format b))
 
-abbrev pub checkFit : Fit → List ℕ → Checked
-checkFit (As format) b = checkAs format b
-checkFit Nothing b = Refused Length
-
--- any bytes: refusal 1 where their number is no format's n
+-- any bytes
 unfoldable pub checkOf : List ℕ → Checked
-checkOf b = checkFit (fitOf (long .n) (short .n) (length b)) b
+checkOf b = checkAs (formatOf b) b

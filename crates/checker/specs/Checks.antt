@@ -7,16 +7,14 @@ use mathlib.Core.List.{List}
 use mathlib.Core.Logic.{_↔_}
 use lib.Dec.{T}
 use Rattle.formats.specs.declared.format.Format.{Format}
-use Rattle.formats.specs.declared.refusal.Refusal.{Refusal}
-use Rattle.formats.specs.Refused.{Lowest}
+use Rattle.refusals.specs.Refused.{refusalNumber}
+use Rattle.refusals.specs.Table.{RefusesBy}
 use Rattle.conditions.specs.Conditions.{proper}
 use Rattle.checker.specs.declared.Checked.the-variants.{Proper, Refused}
-use Rattle.checker.specs.Checking.{checkOf}
-use Rattle.checker.specs.Applies.{CheckApplies}
+use Rattle.checker.specs.Checking.{formatOf, checkTable, checkOf}
 
--- each answer, and exactly when it is given
 pub record Checks (b : List ℕ) : Type 0 where
+  -- "The lowest number that applies is given."
+  pub refuses : RefusesBy refusalNumber Refused (checkTable (formatOf b) b) (checkOf b)
   -- the proper telegrams of a format are accepted as that format's, and no others
   pub accepts : (format : Format) → (checkOf b ≡ Proper format) ↔ T (proper format b)
-  -- "The lowest number that applies is given."
-  pub refuses : (r : Refusal) → (checkOf b ≡ Refused r) ↔ Lowest (CheckApplies b) r

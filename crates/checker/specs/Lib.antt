@@ -1,3 +1,2 @@
 pub mod Checking
-pub mod Applies
 pub mod Checks

@@ -5,17 +5,15 @@ ghost use lib.ListN.{length};
 ghost use Rattle.bits.specs.Bits.{allBits};
 ghost use Rattle.formats.specs.Numbers.{numbersOf};
 ghost use Rattle.telegrams.specs.Fields.{wellFormed};
-ghost use Rattle.checker.specs.Checking.{checkAs, checkOf, checkedValues};
+ghost use Rattle.checker.specs.Checking.{checkAs, checkOf};
 use conditions::off_step;
 use conditions::repeating;
 use conditions::thinned;
 use cyclic::divisors;
 use formats::format;
-use formats::format::Fit;
 use formats::format::Format;
-use formats::format::Long;
 use formats::format::Short;
-use formats::refusal::Refusal;
+use refusals::Refusal;
 use telegrams::fields;
 
 // What checking a telegram answers.
@@ -29,13 +27,13 @@ fn check_conditions(format: Format, telegram: &[u8]) -> Checked
     requires { ⌜ T (wellFormed (numbersOf format) (now telegram)) ⌝ }
     ensures { λ r. ⌜ r ≡ checkAs format (now (telegram .entry)) ⌝ }
 {
-    if !off_step::off_step(format, telegram) {
+    if !off_step::within(format, telegram) {
         return Checked::Refused(Refusal::OffStep);
     }
     if !repeating::not_repeating(format, telegram) {
         return Checked::Refused(Refusal::Repeating);
     }
-    if !thinned::thinned_out(format, telegram) {
+    if !thinned::within(format, telegram) {
         return Checked::Refused(Refusal::Thinned);
     }
     Checked::Proper(format)
@@ -63,12 +61,12 @@ fn check_form(format: Format, telegram: &[u8]) -> Checked
 
 // Whether the bytes are a proper telegram, and of which format; else the lowest refusal that applies.
 pub fn check(telegram: &[u8]) -> Checked
-    ensures answers { λ r. ⌜ r ≡ checkOf (now (telegram .entry)) ⌝ }
-    ensures numbered { λ r. ⌜ checkedValues r ≡ checkedValues (checkOf (now (telegram .entry))) ⌝ }
+    ensures { λ r. ⌜ r ≡ checkOf (now (telegram .entry)) ⌝ }
 {
-    let Fit::As(format) = format::of_length(Long::N, Short::N, telegram.len()) else {
+    let format = format::of_length(Short::N, telegram.len());
+    if telegram.len() != format::telegram_bits(format) {
         return Checked::Refused(Refusal::Length);
-    };
+    }
     if !bits::all_bits(telegram) {
         return Checked::Refused(Refusal::NotBit);
     }

@@ -1,60 +1,21 @@
--- The pairs one after the other (document 01, "Search, reading and place"): the answer of the search is that of the pairs not yet tried, and
--- a pair passes if the telegram made from it passes the tests that are left. Assumes nothing.
-use mathlib.Core.Path.{_≡_, sym, ap, ap₂, _∙_}
-use mathlib.Core.Bool.{Bool, true, false}
+-- The pairs in counting order (document 01, "Search, reading and place"): the pair B, esb stands at place 1024 * B + esb. Assumes nothing.
+use mathlib.Core.Path.{_≡_, refl, sym, ap, ap₂, _∙_}
 use mathlib.Core.List.{List}
-use Prim.Native.Nat.{ℕ, suc, _+_, _-_, _*_, _/_, _%_, _≤_, _<_}
+use Prim.Native.Nat.{ℕ, _+_, _*_, _/_, _%_, _<_}
 use native.Mathlib.Omega.{arith}
-use Rattle.bits.specs.Bits.{both}
-use Rattle.bits.specs.Search.{First, found, none, firstOf}
-use Rattle.bits.proofs.First.{first-none, first-here, first-later}
+use Rattle.bits.specs.Search.{First, found, none}
+use Rattle.bits.proofs.Tests.{clash}
 use Rattle.formats.specs.declared.format.Format.{Format}
 use Rattle.formats.specs.Numbers.{numbersOf}
 use Rattle.formats.proofs.Sizes.{sizesOf}
 use Rattle.cyclic.proofs.Formats.{factsOf}
 use Rattle.telegrams.specs.Telegram.{telegramOf}
 use Rattle.telegrams.proofs.WellFormed.{made-well-formed}
-use Rattle.conditions.specs.Conditions.{offStep, notRepeating, thinnedOut, proper}
-use Rattle.encoder.specs.declared.search.Search.the-variants.{Pair}
-use Rattle.encoder.specs.Encoding.{telegramAt, passes}
+use Rattle.conditions.specs.Conditions.{proper}
+use Rattle.encoder.specs.declared.search.Search.the-variants.{Pair, Nothing}
+use Rattle.encoder.specs.Encoding.{telegramAt, passes, written}
+use Rattle.encoder.specs.Encodes.{wrotePair}
 use Rattle.encoder.specs.Searched.{madeProper, pairOf}
-
--- ---- the search
-
--- of k numbers those before p have failed: the answer is that of the numbers from p on
-pub record Left (test : ℕ → Bool) (answer : First) (k p : ℕ) : Type 0 where
-  pub within : p ≤ k
-  pub rest : answer ≡ firstOf test p (k - p)
-
-pub left-all : (test : ℕ → Bool) (k : ℕ) → Left test (firstOf test 0 k) k 0
-left-all test k =
-    let all : k ≡ k - 0 = omega arith in
-    record { within = omega arith; rest = ap (firstOf test 0) all }
-
-module _ {test : ℕ → Bool} {answer : First} {k p : ℕ} (l : Left test answer k p) where
-  -- p is the next of them
-  next : p < k → answer ≡ firstOf test p (suc (k - (p + 1)))
-  next h =
-      let one : k - p ≡ suc (k - (p + 1)) = omega arith in
-      l .rest ∙ ap (firstOf test p) one
-
-  pub left-fewer : p < k → test p ≡ false → Left test answer k (p + 1)
-  left-fewer h e =
-      let after : suc p ≡ p + 1 = omega arith in
-      record {
-        within = omega arith;
-        rest = next h ∙ first-later test p (k - (p + 1)) e ∙ ap (λ (i : ℕ). firstOf test i (k - (p + 1))) after;
-      }
-
-  pub left-found : p < k → test p ≡ true → answer ≡ found p
-  left-found h e = next h ∙ first-here test p (k - (p + 1)) e
-
-  pub left-none : k ≤ p → answer ≡ none
-  left-none h =
-      let done : k - p ≡ 0 = omega arith in
-      l .rest ∙ ap (firstOf test p) done ∙ first-none test p
-
--- ---- the pair of B and esb
 
 module _ (B esb : ℕ) (below : esb < 1024) where
   pair-scrambling : (1024 * B + esb) / 1024 ≡ B
@@ -67,20 +28,40 @@ module _ (B esb : ℕ) (below : esb < 1024) where
   pub pair-searched : pairOf (found (1024 * B + esb)) ≡ Pair B esb
   pair-searched = ap₂ Pair pair-scrambling pair-shaping
 
-  pub pair-telegram : (format : Format) (u : List ℕ) → telegramAt format u (1024 * B + esb) ≡ telegramOf (numbersOf format) u B esb
-  unfolding telegramAt
-  pair-telegram format u = ap₂ (telegramOf (numbersOf format) u) pair-scrambling pair-shaping
+  module _ (format : Format) (u : List ℕ) where
+    pair-telegram : telegramAt format u (1024 * B + esb) ≡ telegramOf (numbersOf format) u B esb
+    unfolding telegramAt
+    pair-telegram = ap₂ (telegramOf (numbersOf format) u) pair-scrambling pair-shaping
+
+    -- it passes where it is proper
+    pub pair-proper : passes format u (1024 * B + esb) ≡ proper format (telegramOf (numbersOf format) u B esb)
+    unfolding passes
+    pair-proper = ap (proper format) pair-telegram
+
+    -- and it is written
+    pub pair-written : (out : List ℕ) → written format u out (1024 * B + esb) ≡ wrotePair format u out B esb
+    unfolding written
+    pair-written out = rw (pair-telegram, pair-scrambling, pair-shaping)
+
+-- the pair that the search answers
+pub searched-pair : (first : First) (B esb : ℕ) → pairOf first ≡ Pair B esb → (esb < 1024) × (first ≡ found (1024 * B + esb))
+searched-pair (found p) B esb e =
+    let same-B : p / 1024 ≡ B = cc in
+    let same-esb : p % 1024 ≡ esb = cc in
+    let place : p ≡ 1024 * B + esb = omega arith in
+    (omega arith, ap found place)
+searched-pair none B esb e = clash cc
+
+pub searched-none : (first : First) → pairOf first ≡ Nothing → first ≡ none
+searched-none (found p) e = clash cc
+searched-none none e = refl
 
 -- a made telegram is proper if it passes the tests that are left
-pub made-proper : (format : Format) (u : List ℕ) (B esb : ℕ)
+made-proper : (format : Format) (u : List ℕ) (B esb : ℕ)
     → madeProper format (telegramOf (numbersOf format) u B esb) ≡ proper format (telegramOf (numbersOf format) u B esb)
 unfolding madeProper proper
-made-proper format u B esb =
-    let t = telegramOf (numbersOf format) u B esb in
-    ap (λ (x : Bool). both x (both (offStep format t) (both (notRepeating format t) (thinnedOut format t))))
-    (sym (made-well-formed (numbersOf format) (factsOf format) (sizesOf format) u B esb))
+made-proper format u B esb = rw (made-well-formed (numbersOf format) (factsOf format) (sizesOf format) u B esb)
 
 pub pair-passes : (format : Format) (u : List ℕ) (B esb : ℕ) → esb < 1024
     → madeProper format (telegramOf (numbersOf format) u B esb) ≡ passes format u (1024 * B + esb)
-unfolding passes
-pair-passes format u B esb h = made-proper format u B esb ∙ ap (proper format) (sym (pair-telegram B esb h format u))
+pair-passes format u B esb h = made-proper format u B esb ∙ sym (pair-proper B esb h format u)

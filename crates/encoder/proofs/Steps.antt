@@ -1,83 +1,121 @@
--- What encoding a block answers, test by test. Assumes nothing.
-use mathlib.Core.Path.{_≡_, refl, ap}
+-- What encoding a block answers, row by row of its table (document 01, "When the bench says no"). Assumes nothing.
+use mathlib.Core.Path.{_≡_, refl, sym, ap, _∙_}
 use mathlib.Core.Bool.{true, false}
-use mathlib.Core.List.{List, _++_}
+use mathlib.Core.List.{List}
 use Prim.Native.Nat.{ℕ, _+_, _*_, _/_, _%_, _≤_, _<_}
-use native.Mathlib.Omega.{arith}
-use borrow.Author.Tests.{le-leb, lt-leb}
-use lib.ListN.{length, drop}
+use borrow.Author.Tests.{not-false, eqb-true, leb-true, le-leb, lt-leb, eq-eqb, ne-eqb}
+use lib.Dec.{T}
+use lib.ListN.{length}
 use Rattle.bits.specs.Bits.{allBits}
-use Rattle.bits.specs.Search.{First, found, none}
-use Rattle.bits.proofs.Tests.{clash}
+use Rattle.bits.specs.Search.{isFound, whichFound, found, none}
+use Rattle.bits.proofs.Tests.{is-true, holds}
 use Rattle.formats.specs.declared.format.Format.{Format}
-use Rattle.formats.specs.declared.format.Fit.{Fit}
-use Rattle.formats.specs.declared.format.Fit.the-variants.{As, Nothing}
-use Rattle.formats.specs.declared.refusal.Refusal.the-variants.{Length, NotBit, OutputShort, NoPair}
-use Rattle.formats.specs.Numbers.{Numbers, long, short, numbersOf, fitOf}
-use Rattle.formats.specs.Outcome.{outcome}
-use Rattle.formats.proofs.Fits
-use Rattle.telegrams.specs.Telegram.{telegramOf}
+use Rattle.formats.specs.Numbers.{Numbers, numbersOf}
+use Rattle.formats.proofs.Fits.{picks, blocks-apart}
+use Rattle.refusals.specs.declared.Refusal.{Refusal}
+use Rattle.refusals.specs.declared.Refusal.the-variants.{Length, NotBit, OutputShort, NoPair}
+use Rattle.refusals.specs.Refused.{refusalNumber}
+use Rattle.refusals.specs.Table.{Verdict, refused, accepted, verdict, answerBy, risesAbove}
+use Rattle.refusals.specs.Outcome.{outcome}
+use Rattle.refusals.proofs.Table.{Decides, passed, failed, all-passed, NoRow, accepted-no-row}
+use Rattle.encoder.specs.declared.Encoded.{Encoded}
 use Rattle.encoder.specs.declared.Encoded.the-variants.{Pair, Refused}
-use Rattle.encoder.specs.declared.search.Search.{Search}
-use Rattle.encoder.specs.Encoding.{pairCount, telegramAt, firstPair, written, encodeAs, encodeFit, encodeOf}
-use Rattle.encoder.specs.Searched.{pairOf}
+use Rattle.encoder.specs.Encoding.{formatOf, firstPair, encodeTable, written, encodeAs, encodeOf}
+use Rattle.encoder.specs.Encodes.{CleanBlock, wrotePair, foundNone}
+use Rattle.encoder.proofs.Pairs.{pair-written}
 
--- the length fits no format
-pub length-refused : (u out : List ℕ) → fitOf (long .m) (short .m) (length u) ≡ Nothing → encodeOf u out ≡ outcome (Refused Length) out
-unfolding encodeOf
-length-refused u out e = ap (λ (x : Fit). encodeFit x u out) e
+-- ---- the rows
 
--- the length is that of the format
-pub length-fits : (format : Format) (u out : List ℕ) → fitOf (long .m) (short .m) (length u) ≡ As format → encodeOf u out ≡ encodeAs format u out
-unfolding encodeOf
-length-fits format u out e = ap (λ (x : Fit). encodeFit x u out) e
+module _ (format : Format) (u out : List ℕ) where
+  -- the format is that which the length picks
+  decided : (v : Verdict Refusal) → format ≡ formatOf u → Decides (encodeTable format (length out) u) v
+      → encodeOf u out ≡ answerBy (λ (r : Refusal). outcome (Refused r) out) (written format u out (whichFound (firstPair format u))) v
+  unfolding encodeOf encodeAs
+  decided v e d = rw (← e, d .verdict-is)
 
--- a byte other than 0 or 1
-pub bits-refused : (format : Format) (u out : List ℕ) → allBits u ≡ false → encodeAs format u out ≡ outcome (Refused NotBit) out
-unfolding encodeAs
-bits-refused format u out e = rw e
+  -- the length is not the format's
+  pub length-refused : format ≡ formatOf u → (length u ≡ numbersOf format .m → ⊥) → encodeOf u out ≡ outcome (Refused Length) out
+  unfolding encodeTable
+  length-refused e h = decided (refused Length) e (failed (ne-eqb (length u) (numbersOf format .m) h))
 
--- the output is too short
-pub room-refused : (format : Format) (u out : List ℕ) → allBits u ≡ true → length out < numbersOf format .n → encodeAs format u out ≡ outcome (Refused OutputShort) out
-unfolding encodeAs
-room-refused format u out e h = rw (e, lt-leb (numbersOf format .n) (length out) h)
+  module _ (size : length u ≡ numbersOf format .m) where
+    -- it is, so the length picks it
+    picked : format ≡ formatOf u
+    picked = sym (picks (λ (F : Numbers). F .m) blocks-apart format (length u) size)
 
--- bits and room: the search decides
-pub searched : (format : Format) (u out : List ℕ) → allBits u ≡ true → numbersOf format .n ≤ length out
-    → encodeAs format u out ≡ written format u out (firstPair format u)
-unfolding encodeAs
-searched format u out e h = rw (e, le-leb (numbersOf format .n) (length out) h)
+    -- a byte other than 0 or 1
+    pub bits-refused : allBits u ≡ false → encodeOf u out ≡ outcome (Refused NotBit) out
+    unfolding encodeTable
+    bits-refused e = decided (refused NotBit) picked (passed (eq-eqb (length u) (numbersOf format .m) size) (failed e))
 
-abbrev blockBits : Numbers → ℕ
-blockBits F = F .m
+    -- the output is too short
+    pub room-refused : allBits u ≡ true → length out < numbersOf format .n → encodeOf u out ≡ outcome (Refused OutputShort) out
+    unfolding encodeTable
+    room-refused e h =
+        decided (refused OutputShort) picked
+        (passed (eq-eqb (length u) (numbersOf format .m) size) (passed e (failed (lt-leb (numbersOf format .n) (length out) h))))
 
-apart : blockBits long ≡ blockBits short → ⊥
-apart e = omega arith
+  module _ (clean : CleanBlock format u out) where
+    -- no pair is proper
+    pub none-refused : firstPair format u ≡ none → encodeOf u out ≡ foundNone out
+    unfolding encodeTable
+    none-refused e =
+        decided (refused NoPair) (picked (clean .size))
+        (passed (eq-eqb (length u) (numbersOf format .m) (clean .size))
+        (passed (is-true (allBits u) (clean .bits))
+        (passed (le-leb (numbersOf format .n) (length out) (clean .room)) (failed (ap isFound e)))))
 
--- the format of a block of its length
-pub fits-block : (format : Format) (size : ℕ) → size ≡ numbersOf format .m → fitOf (long .m) (short .m) size ≡ As format
-fits-block = Fits.fits-as blockBits apart
+    -- the pair B, esb is the first
+    pub pair-given : (B esb : ℕ) → esb < 1024 → firstPair format u ≡ found (1024 * B + esb) → encodeOf u out ≡ wrotePair format u out B esb
+    unfolding encodeTable
+    pair-given B esb h e =
+        decided accepted (picked (clean .size))
+        (passed (eq-eqb (length u) (numbersOf format .m) (clean .size))
+        (passed (is-true (allBits u) (clean .bits))
+        (passed (le-leb (numbersOf format .n) (length out) (clean .room)) (passed (ap isFound e) all-passed))))
+        ∙ rw e (pair-written B esb h format u out)
 
--- and the length that picks it
-pub block-size : (format : Format) (size : ℕ) → fitOf (long .m) (short .m) size ≡ As format → size ≡ numbersOf format .m
-block-size = Fits.size-of blockBits apart
+-- ---- the whole table
 
--- ---- what is written, by the search's answer
+-- the numbers of the rows rise
+pub rises : (format : Format) (room : ℕ) (u : List ℕ) → T (risesAbove refusalNumber 0 (encodeTable format room u))
+unfolding encodeTable risesAbove
+rises format room u = tt
 
--- the first pair is of B and esb, and left is its telegram over the front of the output
-pub pair-written : (format : Format) (u out left : List ℕ) (first : First) (B esb : ℕ) → pairOf first ≡ Search.Pair B esb
-    → left ≡ telegramOf (numbersOf format) u B esb ++ drop (numbersOf format .n) out
-    → written format u out first ≡ outcome (Pair format B esb (1024 * B + esb + 1)) left
-unfolding telegramAt
-pair-written format u out left (found p) B esb e l =
-    let same-B : p / 1024 ≡ B = cc in
-    let same-esb : p % 1024 ≡ esb = cc in
-    let count : p + 1 ≡ 1024 * B + esb + 1 = omega arith in
-    rw (l, ← count, ← same-B, ← same-esb)
-pair-written format u out left none B esb e l = clash cc
+-- what no refusal applies to
+pub accepted-clean : (format : Format) (u out : List ℕ) → verdict (encodeTable format (length out) u) ≡ accepted → CleanBlock format u out
+unfolding encodeTable NoRow
+accepted-clean format u out e =
+    let no = accepted-no-row (encodeTable format (length out) u) e in
+    record {
+      size = eqb-true (length u) (numbersOf format .m) (not-false _ (no .0));
+      bits = holds (allBits u) (not-false _ (no .1 .0));
+      room = leb-true (numbersOf format .n) (length out) (not-false _ (no .1 .1 .0));
+    }
 
--- no pair is proper
-pub none-written : (format : Format) (u out : List ℕ) (first : First) → pairOf first ≡ Search.Nothing
-    → written format u out first ≡ outcome (Refused (NoPair pairCount)) out
-none-written format u out (found p) e = clash cc
-none-written format u out none e = refl
+-- outputs that have room for the telegram have one table
+pub same-table : (format : Format) (u out out′ : List ℕ) → numbersOf format .n ≤ length out → numbersOf format .n ≤ length out′
+    → encodeTable format (length out) u ≡ encodeTable format (length out′) u
+unfolding encodeTable
+same-table format u out out′ h h′ = rw (le-leb (numbersOf format .n) (length out) h, le-leb (numbersOf format .n) (length out′) h′)
+
+-- the answer where no refusal applies
+abbrev pub firstAnswer : List ℕ → Encoded
+firstAnswer u = let p = whichFound (firstPair (formatOf u) u) in Pair (formatOf u) (p / 1024) (p % 1024) (p + 1)
+
+module _ (u out : List ℕ) where
+  -- the answer by the verdict
+  pub answer-by : encodeOf u out .answer ≡ answerBy Refused (firstAnswer u) (verdict (encodeTable (formatOf u) (length out) u))
+  unfolding encodeOf encodeAs written
+  answer-by = go (verdict (encodeTable (formatOf u) (length out) u))
+    where
+      go : (v : Verdict Refusal)
+          → answerBy (λ (r : Refusal). outcome (Refused r) out) (written (formatOf u) u out (whichFound (firstPair (formatOf u) u))) v .answer
+          ≡ answerBy Refused (firstAnswer u) v
+      go (refused r) = refl
+      go accepted = refl
+
+  -- a refusal keeps the output
+  pub kept : (r : Refusal) → verdict (encodeTable (formatOf u) (length out) u) ≡ refused r → encodeOf u out ≡ outcome (Refused r) out
+  unfolding encodeOf encodeAs
+  kept r e = rw e

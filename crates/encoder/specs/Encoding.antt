@@ -1,34 +1,37 @@
 -- What encoding a block answers, and what the output holds afterwards (document 01, "Search, reading and place", and
--- "When the bench says no": refusals 1 to 4, the lowest that applies).
+-- "When the bench says no").
 -- Assumes nothing.
 use Prim.Native.Nat.{ℕ, _+_, _/_, _%_}
-use mathlib.Core.Bool.{Bool}
+use mathlib.Core.Bool.{Bool, not}
 use mathlib.Core.List.{List, [], _∷_, _++_}
-use lib.Dec.{leb}
+use lib.Dec.{eqb, leb}
 use lib.ListN.{length, drop}
 use Rattle.bits.specs.Bits.{allBits}
+use Rattle.bits.specs.Search.{First, firstOf, isFound, whichFound}
 use Rattle.formats.specs.declared.format.Format.{Format}
-use Rattle.formats.specs.declared.format.Fit.{Fit}
-use Rattle.formats.specs.declared.format.Fit.the-variants.{As, Nothing}
-use Rattle.formats.specs.declared.refusal.Refusal.the-variants.{Length, NotBit, OutputShort, NoPair}
-use Rattle.formats.specs.Numbers.{long, short, numbersOf, fitOf}
-use Rattle.formats.specs.Outcome.{Outcome, outcome, orRefuse}
-use Rattle.formats.specs.AnswerValues.{formatNumber, refusalValues}
+use Rattle.formats.specs.Numbers.{short, numbersOf, formatFor}
+use Rattle.refusals.specs.declared.Refusal.{Refusal}
+use Rattle.refusals.specs.declared.Refusal.the-variants.{Length, NotBit, OutputShort, NoPair}
+use Rattle.refusals.specs.Refused.{pairCount, refusalNumber, triedCount}
+use Rattle.refusals.specs.Table.{Row, _when_, verdict, answerBy}
+use Rattle.refusals.specs.Outcome.{Outcome, outcome}
+use Rattle.refusals.specs.AnswerValues.{formatNumber}
 use Rattle.telegrams.specs.Telegram.{telegramOf}
 use Rattle.conditions.specs.Conditions.{proper}
 use Rattle.encoder.specs.declared.Encoded.{Encoded}
 use Rattle.encoder.specs.declared.Encoded.the-variants.{Pair, Refused}
-use Rattle.bits.specs.Search.{First, found, none, firstOf}
 
--- the values of each answer: 0, the format, B, esb and the count of pairs tried; or those of the refusal
+-- the values of each answer: the number, 0 where nothing is refused, the format, B, esb and the count of pairs tried; a refusal has
+-- the number and the count
 abbrev pub encodedValues : Encoded → List ℕ
 encodedValues (Pair format B esb tried) = 0 ∷ formatNumber format ∷ B ∷ esb ∷ tried ∷ []
-encodedValues (Refused refusal) = refusalValues refusal
+encodedValues (Refused refusal) = refusalNumber refusal ∷ 0 ∷ 0 ∷ 0 ∷ triedCount refusal ∷ []
+
+-- the format that the block's length picks
+abbrev pub formatOf : List ℕ → Format
+formatOf u = formatFor (short .m) (length u)
 
 -- the pairs in counting order: pair p has B = p / 1024 and esb = p % 1024
-abbrev pub pairCount : ℕ
-pairCount = 4194304
-
 unfoldable pub telegramAt : Format → List ℕ → ℕ → List ℕ
 telegramAt format u p = telegramOf (numbersOf format) u (p / 1024) (p % 1024)
 
@@ -40,23 +43,26 @@ passes format u p = proper format (telegramAt format u p)
 unfoldable pub firstPair : Format → List ℕ → First
 firstPair format u = firstOf (passes format u) 0 pairCount
 
--- the pair's telegram over the front of the output, or the refusal
-abbrev pub written : Format → List ℕ → List ℕ → First → Outcome Encoded
-written format u out (found p) =
-    outcome (Pair format (p / 1024) (p % 1024) (p + 1)) (telegramAt format u p ++ drop (numbersOf format .n) out)
-written format u out none = outcome (Refused (NoPair pairCount)) out
+-- when each refusal applies to a block that is to be the format's, room being the output's length
+unfoldable pub encodeTable : Format → ℕ → List ℕ → List (Row Refusal)
+encodeTable format room u =
+    let F = numbersOf format in
+    Length when not (eqb (length u) (F .m))
+    ∷ NotBit when not (allBits u)
+    ∷ OutputShort when not (leb (F .n) room)
+    ∷ NoPair when not (isFound (firstPair format u))
+    ∷ []
 
--- a block of the format's m bytes: refusals 2 and 3, then the search
+-- the pair, its count, and its telegram over the front of the output
+unfoldable pub written : Format → List ℕ → List ℕ → ℕ → Outcome Encoded
+written format u out p =
+    outcome (Pair format (p / 1024) (p % 1024) (p + 1)) (telegramAt format u p ++ drop (numbersOf format .n) out)
+
 unfoldable pub encodeAs : Format → List ℕ → List ℕ → Outcome Encoded
 encodeAs format u out =
-    orRefuse (allBits u) (outcome (Refused NotBit) out)
-    (orRefuse (leb (numbersOf format .n) (length out)) (outcome (Refused OutputShort) out)
-    (written format u out (firstPair format u)))
+    answerBy (λ (r : Refusal). outcome (Refused r) out) (written format u out (whichFound (firstPair format u)))
+    (verdict (encodeTable format (length out) u))
 
-abbrev pub encodeFit : Fit → List ℕ → List ℕ → Outcome Encoded
-encodeFit (As format) u out = encodeAs format u out
-encodeFit Nothing u out = outcome (Refused Length) out
-
--- any block: refusal 1 where its length is no format's m
+-- any block
 unfoldable pub encodeOf : List ℕ → List ℕ → Outcome Encoded
-encodeOf u out = encodeFit (fitOf (long .m) (short .m) (length u)) u out
+encodeOf u out = encodeAs (formatOf u) u out

@@ -1,2 +1,4 @@
 pub mod Encoding
+pub mod FirstPair
+pub mod Encodes
 pub mod Searched

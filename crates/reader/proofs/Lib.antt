@@ -1,7 +1,12 @@
--- `Windows` has the laws of windows, `Steps` the answer test by test, `Accepted` what an accepted window passed, `Parts` what stands in
--- the buffers while a window is read, `Room` that any output with room gives the same answer.
+-- `Windows` has the laws of windows, `Steps` the answer by the verdict and row by row, `Accepted` what an accepted window passed, `Turns` the
+-- turn of a window, `Laws` what other crates need of reading. `Exact` proves what reading means, by way of `CutReads` (cut from a telegram
+-- means accepted) and `ReadsCut` (the other way). `Parts` has what stands in the buffers while a window is read.
 pub mod Windows
 pub mod Steps
 pub mod Accepted
+pub mod Turns
+pub mod Laws
+pub mod CutReads
+pub mod ReadsCut
+pub mod Exact
 pub mod Parts
-pub mod Room

@@ -1,5 +1,3 @@
--- `Answers` has what the answers on the way tell, `TurnedBack` bits that are turned back into a buffer, `Found` the telegram of a window that
--- stands in a buffer.
-pub mod Answers
+-- `TurnedBack` has bits that are turned back into a buffer, `Found` the telegram of a window that stands in a buffer.
 pub mod TurnedBack
 pub mod Found

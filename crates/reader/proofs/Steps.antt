@@ -1,110 +1,119 @@
--- What reading a window answers, test by test. Assumes nothing.
-use mathlib.Core.Path.{_≡_, ap, _∙_}
+-- What reading a window answers, by the verdict of its table, and row by row: refused where the rows before do not apply and this one does,
+-- and what is left where none applies. Assumes nothing.
+use mathlib.Core.Path.{_≡_, refl, ap, _∙_}
 use mathlib.Core.Bool.{Bool, true, false}
 use mathlib.Core.List.{List, _++_}
 use Prim.Native.Nat.{ℕ, _≤_, _<_}
-use native.Mathlib.Omega.{arith}
-use borrow.Author.Tests.{le-leb, lt-leb}
+use borrow.Author.Tests.{le-leb, lt-leb, eq-eqb, ne-eqb}
+use lib.Dec.{T}
 use lib.ListN.{length, take, drop}
 use Rattle.bits.specs.Bits.{allBits, same}
 use Rattle.formats.specs.declared.format.Format.{Format}
-use Rattle.formats.specs.declared.format.Fit.{Fit}
-use Rattle.formats.specs.declared.format.Fit.the-variants.{As, Nothing}
-use Rattle.formats.specs.declared.refusal.Refusal.the-variants.{Length, NotBit, OutputShort, EndsDiffer, NotDivisible, NoTurn, Control, NotWord}
-use Rattle.formats.specs.Numbers.{long, short, numbersOf, windowBits, fitOf, fOf}
-use Rattle.formats.specs.Outcome.{outcome}
-use Rattle.formats.proofs.Fits
-use Rattle.cyclic.specs.declared.Turn.{Turn}
-use Rattle.cyclic.specs.declared.Turn.the-variants.{At, Nothing as NoneFits}
-use Rattle.cyclic.specs.Remainder.{remainder}
-use Rattle.cyclic.specs.Check.{turnOf, divisible}
+use Rattle.formats.specs.Numbers.{numbersOf, windowBits}
+use Rattle.formats.proofs.Fits.{picks, windows-apart}
+use Rattle.refusals.specs.declared.Refusal.{Refusal}
+use Rattle.refusals.specs.declared.Refusal.the-variants.{Length, NotBit, OutputShort, EndsDiffer, NotDivisible, NoTurn, Control, NotWord}
+use Rattle.refusals.specs.Refused.{refusalNumber}
+use Rattle.refusals.specs.Table.{Verdict, verdict, answerBy, risesAbove}
+use Rattle.refusals.specs.Outcome.{outcome}
+use Rattle.cyclic.specs.declared.Turn.the-variants.{At, Nothing}
+use Rattle.cyclic.specs.Check.{divisible}
 use Rattle.telegrams.specs.Telegram.{control}
 use Rattle.telegrams.specs.Fields.{controlOf, allWords, userBitsOf}
 use Rattle.reader.specs.declared.ReadAnswer.the-variants.{Read, Refused}
-use Rattle.reader.specs.Reads.{endsAgree, isFlipped, turnedBack, telegramIn, readingOf, readTelegram, readTurn, readAs, readFit, readOf}
+use Rattle.reader.specs.Reads.{formatOf, endsAgree, turnFound, turnIn, telegramTable, readTable, readingOf, readingIn, userBitsIn, readOut, readAs, readOf}
+use Rattle.reader.specs.AtTurn.{readTelegram, readAtTurn}
 
--- the length fits no format
-pub length-refused : (w out : List ℕ) → fitOf (windowBits long) (windowBits short) (length w) ≡ Nothing
-    → readOf w out ≡ outcome (Refused Length) out
+-- ---- by the verdict
+
+-- a window that is to be the format's
+pub decided : (format : Format) (w out : List ℕ) (v : Verdict Refusal) → verdict (readTable format (length out) w) ≡ v
+    → readAs format w out ≡ answerBy (λ (r : Refusal). outcome (Refused r) out) (readOut format w out) v
+unfolding readAs
+decided format w out v e = ap (answerBy (λ (r : Refusal). outcome (Refused r) out) (readOut format w out)) e
+
+-- any window is to be that of the format that its length picks
+pub any-window : (w out : List ℕ) → readOf w out ≡ readAs (formatOf w) w out
 unfolding readOf
-length-refused w out e = ap (λ (x : Fit). readFit x w out) e
+any-window w out = refl
 
--- the length is that of the format
-pub length-fits : (format : Format) (w out : List ℕ) → fitOf (windowBits long) (windowBits short) (length w) ≡ As format
-    → readOf w out ≡ readAs format w out
-unfolding readOf
-length-fits format w out e = ap (λ (x : Fit). readFit x w out) e
+-- the numbers of the rows rise
+pub rises : (format : Format) (room : ℕ) (w : List ℕ) → T (risesAbove refusalNumber 0 (readTable format room w))
+unfolding readTable telegramTable risesAbove
+rises format room w = tt
 
-apart : windowBits long ≡ windowBits short → ⊥
-apart e = omega arith
+-- the format that the length of a format's window picks
+pub format-of : (format : Format) (w : List ℕ) → length w ≡ windowBits (numbersOf format) → formatOf w ≡ format
+format-of format w size = picks windowBits windows-apart format (length w) size
 
--- the format of a window of its length
-pub fits-window : (format : Format) (size : ℕ) → size ≡ windowBits (numbersOf format) → fitOf (windowBits long) (windowBits short) size ≡ As format
-fits-window = Fits.fits-as windowBits apart
+-- such a window is read as that format's
+pub read-as : (format : Format) (w out : List ℕ) → length w ≡ windowBits (numbersOf format) → readOf w out ≡ readAs format w out
+read-as format w out size = any-window w out ∙ ap (λ (f : Format). readAs f w out) (format-of format w size)
 
--- and the length that picks it
-pub window-size : (format : Format) (size : ℕ) → fitOf (windowBits long) (windowBits short) size ≡ As format → size ≡ windowBits (numbersOf format)
-window-size = Fits.size-of windowBits apart
+-- ---- row by row
 
-module _ (format : Format) (w out : List ℕ) where
-  -- a byte other than 0 or 1
+-- 1: it has another length
+pub length-refused : (format : Format) (w out : List ℕ) → (length w ≡ windowBits (numbersOf format) → ⊥)
+    → readAs format w out ≡ outcome (Refused Length) out
+unfolding readAs readTable verdict
+length-refused format w out e = rw (ne-eqb (length w) (windowBits (numbersOf format)) e)
+
+module _ (format : Format) (w out : List ℕ) (size : length w ≡ windowBits (numbersOf format)) where
+  -- 2: a byte is not a bit
   pub bits-refused : allBits w ≡ false → readAs format w out ≡ outcome (Refused NotBit) out
-  unfolding readAs
-  bits-refused e = rw e
+  unfolding readAs readTable verdict
+  bits-refused bits = rw (eq-eqb (length w) (windowBits (numbersOf format)) size, bits)
 
-  -- the output is too short
+  -- 3: the output is too short
   pub room-refused : allBits w ≡ true → length out < numbersOf format .m → readAs format w out ≡ outcome (Refused OutputShort) out
-  unfolding readAs
-  room-refused e h = rw (e, lt-leb (numbersOf format .m) (length out) h)
+  unfolding readAs readTable verdict
+  room-refused bits less =
+      rw (eq-eqb (length w) (windowBits (numbersOf format)) size, bits, lt-leb (numbersOf format .m) (length out) less)
 
--- bits and room
-module _ (format : Format) (w out : List ℕ) (bits : allBits w ≡ true) (room : numbersOf format .m ≤ length out) where
-  -- the last r bits differ from the first r
-  pub ends-refused : endsAgree (numbersOf format) w ≡ false → readAs format w out ≡ outcome (Refused EndsDiffer) out
-  unfolding readAs
-  ends-refused s = rw (bits, le-leb (numbersOf format .m) (length out) room, s)
+  module _ (bits : allBits w ≡ true) (room : numbersOf format .m ≤ length out) where
+    -- 5: the ends differ
+    pub ends-refused : endsAgree (numbersOf format) w ≡ false → readAs format w out ≡ outcome (Refused EndsDiffer) out
+    unfolding readAs readTable verdict
+    ends-refused ends =
+        rw (eq-eqb (length w) (windowBits (numbersOf format)) size, bits, le-leb (numbersOf format .m) (length out) room, ends)
 
-  -- not divisible by g
-  pub divisible-refused : endsAgree (numbersOf format) w ≡ true → divisible (numbersOf format) (take (numbersOf format .n) w) ≡ false
-      → readAs format w out ≡ outcome (Refused NotDivisible) out
-  unfolding readAs
-  divisible-refused s d = rw (bits, le-leb (numbersOf format .m) (length out) room, s, d)
+    module _ (ends : endsAgree (numbersOf format) w ≡ true) where
+      -- 6: g does not divide the first n bits
+      pub divisible-refused : divisible (numbersOf format) (take (numbersOf format .n) w) ≡ false
+          → readAs format w out ≡ outcome (Refused NotDivisible) out
+      unfolding readAs readTable verdict
+      divisible-refused divided =
+          rw (eq-eqb (length w) (windowBits (numbersOf format)) size, bits, le-leb (numbersOf format .m) (length out) room, ends, divided)
 
-  -- past these the remainder by f decides
-  pub turn-decides : endsAgree (numbersOf format) w ≡ true → divisible (numbersOf format) (take (numbersOf format .n) w) ≡ true
-      → readAs format w out ≡ readTurn format (turnOf (numbersOf format) (remainder (fOf (numbersOf format)) (take (numbersOf format .n) w))) w out
-  unfolding readAs
-  turn-decides s d = rw (bits, le-leb (numbersOf format .m) (length out) room, s, d)
+      module _ (divided : divisible (numbersOf format) (take (numbersOf format .n) w) ≡ true) where
+        -- 7: there is no turn
+        pub turn-refused : turnFound (numbersOf format) w ≡ Nothing → readAs format w out ≡ outcome (Refused NoTurn) out
+        unfolding readAs readTable verdict
+        turn-refused turn =
+            rw (eq-eqb (length w) (windowBits (numbersOf format)) size, bits, le-leb (numbersOf format .m) (length out) room, ends, divided, turn)
 
-  -- the remainder by f is that of no turn
-  pub turn-refused : endsAgree (numbersOf format) w ≡ true → divisible (numbersOf format) (take (numbersOf format .n) w) ≡ true
-      → turnOf (numbersOf format) (remainder (fOf (numbersOf format)) (take (numbersOf format .n) w)) ≡ NoneFits
-      → readAs format w out ≡ outcome (Refused NoTurn) out
-  turn-refused s d e = turn-decides s d ∙ ap (λ (x : Turn). readTurn format x w out) e
-
-  -- it is that of the turn t: the telegram turned back decides
-  pub turn-found : endsAgree (numbersOf format) w ≡ true → divisible (numbersOf format) (take (numbersOf format .n) w) ≡ true
-      → (t : ℕ) → turnOf (numbersOf format) (remainder (fOf (numbersOf format)) (take (numbersOf format .n) w)) ≡ At t
-      → readAs format w out
-      ≡ readTelegram format t (isFlipped (numbersOf format) (turnedBack (numbersOf format) t w)) (telegramIn (numbersOf format) t w) out
-  turn-found s d t e = turn-decides s d ∙ ap (λ (x : Turn). readTurn format x w out) e
+        -- there is one: the telegram there decides
+        pub turn-found : (t : ℕ) → turnFound (numbersOf format) w ≡ At t → readAs format w out ≡ readAtTurn format t w out
+        unfolding readAs readTable verdict readAtTurn readTelegram readingIn userBitsIn turnIn
+        turn-found t turn =
+            rw (eq-eqb (length w) (windowBits (numbersOf format)) size, bits, le-leb (numbersOf format .m) (length out) room, ends, divided, turn)
 
 -- the telegram b, found at the turn t
 module _ (format : Format) (t : ℕ) (flipped : Bool) (b out : List ℕ) where
-  -- control bits other than 0, 0, 1
+  -- 8: control bits other than 0, 0, 1
   pub control-refused : same (controlOf (numbersOf format) b) control ≡ false → readTelegram format t flipped b out ≡ outcome (Refused Control) out
-  unfolding readTelegram
-  control-refused c = rw c
+  unfolding readTelegram telegramTable verdict
+  control-refused controlled = rw controlled
 
-  -- a word that is not in the table
+  -- 9: a word that is not in the table
   pub word-refused : same (controlOf (numbersOf format) b) control ≡ true → allWords (numbersOf format .words) b ≡ false
       → readTelegram format t flipped b out ≡ outcome (Refused NotWord) out
-  unfolding readTelegram
-  word-refused c k = rw (c, k)
+  unfolding readTelegram telegramTable verdict
+  word-refused controlled worded = rw (controlled, worded)
 
-  -- every test is passed
-  pub accepted : same (controlOf (numbersOf format) b) control ≡ true → allWords (numbersOf format .words) b ≡ true
+  -- none applies
+  pub telegram-read : same (controlOf (numbersOf format) b) control ≡ true → allWords (numbersOf format .words) b ≡ true
       → readTelegram format t flipped b out
       ≡ outcome (Read (readingOf format t flipped b)) (userBitsOf (numbersOf format) b ++ drop (numbersOf format .m) out)
-  unfolding readTelegram
-  accepted c k = rw (c, k)
+  unfolding readTelegram telegramTable verdict
+  telegram-read controlled worded = rw (controlled, worded)

@@ -1,2 +1,5 @@
 pub mod Windows
 pub mod Reads
+pub mod AtTurn
+pub mod CutFrom
+pub mod ReadsExactly

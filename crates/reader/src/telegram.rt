@@ -1,26 +1,22 @@
 // Reading the telegram that a window has at a turn (document 01, "Search, reading and place").
 ghost use mathlib.Core.Path.{_≡_};
-ghost use mathlib.Core.List.{_++_};
-ghost use Prim.Native.Nat.{_/_, _≤_};
+ghost use Prim.Native.Nat.{_≤_};
 ghost use lib.Dec.{T};
-ghost use lib.ListN.{length, drop};
+ghost use lib.ListN.{length};
 ghost use Rattle.bits.specs.Bits.{allBits};
 ghost use Rattle.formats.specs.Numbers.{numbersOf};
-ghost use Rattle.formats.specs.Outcome.{outcome};
-ghost use Rattle.scrambling.specs.Scrambling.{descrambled};
-ghost use Rattle.scrambling.specs.Sum.{withoutSum};
-ghost use Rattle.reader.specs.Reads.{readTelegram, readTurn};
+ghost use Rattle.refusals.specs.Outcome.{outcome};
+ghost use Rattle.reader.specs.AtTurn.{readTelegram, readAtTurn};
 use crate::ReadAnswer;
 use crate::Reading;
 use crate::turned;
-use crate::unshaping;
-use crate::unshaping::Unshaped;
-use cyclic::Turn;
 use formats::format;
 use formats::format::Format;
 use formats::format::Long;
-use formats::refusal::Refusal;
+use refusals::Refusal;
 use telegrams::fields;
+use telegrams::undoing;
+use telegrams::undoing::Unshaped;
 
 // Reads the telegram found at the turn t.
 fn read_telegram(
@@ -40,13 +36,13 @@ fn read_telegram(
     }
     let mut unshaped = [0u8; 10 * Long::WORDS];
     let words = format::words(format);
-    let answer = unshaping::unshape(telegram, words, &mut unshaped);
-    if let Unshaped::Refused(refusal) = answer {
-        return ReadAnswer::Refused(refusal);
+    let answer = undoing::unshape(telegram, words, &mut unshaped);
+    if let Unshaped::NotWord = answer {
+        return ReadAnswer::Refused(Refusal::NotWord);
     }
     let b = fields::scrambling_bits(format, telegram);
     let m = format::user_bits(format);
-    write_user_bits(b, &unshaped[..m], output);
+    undoing::write_user_bits(b, &unshaped[..m], output);
     ReadAnswer::Read(Reading {
         format,
         scrambling: b,
@@ -61,7 +57,7 @@ pub fn read_turned(format: Format, t: usize, window: &[u8], output: &mut [u8]) -
     requires { ⌜ numbersOf format .n ≤ length (now window) ⌝ }
     requires { ⌜ t ≤ numbersOf format .n ⌝ }
     requires { ⌜ numbersOf format .m ≤ length (now output) ⌝ }
-    ensures { λ r. ⌜ readTurn format (Turn.At t) (now (window .entry)) (now (output .entry)) ≡ outcome r (now (output .exit)) ⌝ }
+    ensures { λ r. ⌜ readAtTurn format t (now (window .entry)) (now (output .entry)) ≡ outcome r (now (output .exit)) ⌝ }
 {
     let mut telegram = [0u8; Long::N];
     let flipped = turned::telegram_in(format, t, window, &mut telegram);

@@ -5,7 +5,7 @@ ghost use lib.Dec.{T};
 ghost use lib.ListN.{length};
 ghost use Rattle.bits.specs.Bits.{allBits};
 ghost use Rattle.formats.specs.Numbers.{numbersOf, windowBits};
-ghost use Rattle.formats.specs.Outcome.{outcome};
+ghost use Rattle.refusals.specs.Outcome.{outcome};
 ghost use Rattle.reader.specs.Reads.{endsAgree, readAs};
 use crate::ReadAnswer;
 use crate::telegram;
@@ -15,7 +15,7 @@ use cyclic::remainder;
 use cyclic::turning;
 use formats::format;
 use formats::format::Format;
-use formats::refusal::Refusal;
+use refusals::Refusal;
 
 // Whether the window's last r bits repeat its first. Where they do not, the first bit that differs ends the test.
 pub fn ends_agree(format: Format, window: &[u8]) -> bool

@@ -16,4 +16,3 @@ formatNumber Short = 1
 abbrev pub flippedNumber : Bool → ℕ
 flippedNumber false = 0
 flippedNumber true = 1
-

@@ -2,16 +2,16 @@
 -- Assumes nothing.
 use Prim.Native.Nat.{ℕ, _≤_}
 use mathlib.Core.Path.{_≡_}
-use mathlib.Core.Bool.{Bool, true, cond, _&&_}
+use mathlib.Core.Bool.{Bool, true, false, cond, _&&_}
 use mathlib.Core.List.{List, [], _∷_}
-use mathlib.Core.Logic.{_⊎_}
+use mathlib.Core.Logic.{_⊎_, _↔_}
 use lib.Dec.{T, ltb}
 
 pub record Row (R : Type 0) : Type 0 where
   pub refusal : R
   pub applies : Bool
 
-infixr 40 _when_
+infix 80 _when_
 abbrev pub _when_ : {R : Type 0} → R → Bool → Row R
 refusal when applies = record { refusal = refusal; applies = applies }
 
@@ -25,6 +25,10 @@ pub data Verdict (R : Type 0) : Type 0 where
 unfoldable pub verdict : {R : Type 0} → List (Row R) → Verdict R
 verdict [] = accepted
 verdict (row ∷ rows) = cond (row .applies) (refused (row .refusal)) (verdict rows)
+
+abbrev pub accepts : {R : Type 0} → Verdict R → Bool
+accepts (refused r) = false
+accepts accepted = true
 
 -- the answer with that refusal; where none applies, the answer that accepts
 abbrev pub answerBy : {R A : Type 0} → (R → A) → A → Verdict R → A
@@ -51,6 +55,10 @@ FirstApplies (row ∷ rows) r = RowApplies row r ⊎ ((T (row .applies) → ⊥)
 pub record Lowest {R : Type 0} (number : R → ℕ) (rows : List (Row R)) (r : R) : Type 0 where
   pub applies : Applies rows r
   pub lowest : (q : R) → Applies rows q → number r ≤ number q
+
+-- a call's answer goes by its table: it is a refusal exactly where that is the lowest that applies
+abbrev pub RefusesBy : {R A : Type 0} → (R → ℕ) → (R → A) → List (Row R) → A → Type 0
+RefusesBy {R} number refuse rows answer = (r : R) → (answer ≡ refuse r) ↔ Lowest number rows r
 
 -- the numbers of the rows rise, from above k on
 unfoldable pub risesAbove : {R : Type 0} → (R → ℕ) → ℕ → List (Row R) → Bool

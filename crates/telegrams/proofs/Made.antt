@@ -21,7 +21,7 @@ use Rattle.cyclic.specs.Check.{checkBits}
 use Rattle.cyclic.proofs.Laws.{Facts, bits-checkBits, length-checkBits}
 use Rattle.telegrams.specs.Telegram.{shapedData, control, settings, unchecked, telegramOf}
 use Rattle.telegrams.specs.Fields.{controlOf, scramblingOf, shapingOf, unshaped, userBitsOf, allWords, checked}
-use Rattle.telegrams.proofs.Shaping.{length-shaped, bits-shaped, length-unshaped, allWords-shaped, unshaped-shaped}
+use Rattle.telegrams.proofs.Shaping.{length-shaped, bits-shaped, length-unshaped, allWords-shaped, unshaped-all}
 
 -- ---- the settings
 
@@ -144,7 +144,7 @@ module _ (F : Numbers) (A : Facts F) (S : Sizes F) (u : List ℕ) (B esb : ℕ) 
       let ten : 10 ≤ length u = omega (arith, S .m-is, S .some) in
       let whole : length v ≡ 10 * k = scrambled-length B (withSum k u) ∙ withSum-length k u ten ∙ size ∙ S .m-is in
       ap₂ (λ (c : ℕ) (l : List ℕ). withoutSum k (descrambled c l)) (scrambling-made below)
-      (ap (unshaped k) made-split ∙ unshaped-shaped k v rest (scrambled-bits B (withSum k u)) whole)
+      (ap (unshaped k) made-split ∙ unshaped-all k v rest (scrambled-bits B (withSum k u)) whole)
       ∙ ap (withoutSum k) (descrambled-scrambled B (withSum k u) (withSum-bits k u h))
       ∙ withoutSum-withSum k u h (S .some) ten
 

@@ -60,12 +60,15 @@ block-stays : (v : List ℕ) → T (allBits v) → 10 ≤ length v → blockOfWo
 block-stays v bits ten =
     ap (λ (r : Lookup). bitsOf 10 (numberIn r)) (lookup-bits (numberOf (take 10 v)) (front-below 10 v bits)) ∙ front-bits 10 v bits ten
 
-pub unshaped-shaped : (k : ℕ) (v rest : List ℕ) → T (allBits v) → length v ≡ 10 * k → unshaped k (shaped k v ++ rest) ≡ v
-unshaped-shaped k v rest bits size =
+pub unshaped-shaped : (k : ℕ) (v rest : List ℕ) → T (allBits v) → 10 * k ≤ length v → unshaped k (shaped k v ++ rest) ≡ take (10 * k) v
+unshaped-shaped k v rest bits within =
     groups-of-groups wordOfBlock 10 11 length-word _++_ [] blockOfWord k v rest
-    ∙ groups-stay (λ block. true) 10 (λ block. blockOfWord (wordOfBlock block)) (λ s h ten t. block-stays s h ten) k v bits (omega arith)
+    ∙ groups-stay (λ block. true) 10 (λ block. blockOfWord (wordOfBlock block)) (λ s h ten t. block-stays s h ten) k v bits within
     (every-group (λ block. true) 10 (λ s h. tt) k v bits)
-    ∙ take-all (10 * k) v (omega arith)
+
+-- all of it
+pub unshaped-all : (k : ℕ) (v rest : List ℕ) → T (allBits v) → length v ≡ 10 * k → unshaped k (shaped k v ++ rest) ≡ v
+unshaped-all k v rest bits size = unshaped-shaped k v rest bits (omega arith) ∙ take-all (10 * k) v (omega arith)
 
 -- ---- words of the table
 

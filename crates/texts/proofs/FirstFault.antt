@@ -11,7 +11,7 @@ use borrow.Author.Tests.{eqb-true, eqb-false, lt-ltb, le-ltb}
 use lib.ListN.{length, take, drop, length-append, take-append-drop}
 use lib.Seq.{take-all, length-take-le}
 use Rattle.bits.proofs.Tests.{clash}
-use Rattle.formats.specs.Outcome.{Outcome, outcome}
+use Rattle.refusals.specs.Outcome.{Outcome, outcome}
 use Rattle.texts.specs.declared.reading.Character.{Character}
 use Rattle.texts.specs.declared.reading.Character.the-variants.{Bit, Skipped, Other}
 use Rattle.texts.specs.declared.reading.Progress.{Progress}

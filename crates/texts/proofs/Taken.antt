@@ -10,7 +10,7 @@ use lib.Dec.{ltb}
 use lib.ListN.{length, take, drop, length-append, take-append-drop}
 use lib.Seq.{length-take-le, take-at, drop-append-add, drop-drop}
 use Rattle.bits.proofs.Tests.{clash}
-use Rattle.formats.specs.Outcome.{Outcome, outcome}
+use Rattle.refusals.specs.Outcome.{Outcome, outcome}
 use Rattle.texts.specs.declared.reading.Character.{Character}
 use Rattle.texts.specs.declared.reading.Character.the-variants.{Bit, Skipped, Other}
 use Rattle.texts.specs.declared.reading.Progress.{Progress}

@@ -2,7 +2,7 @@
 use Prim.Native.Nat.{ℕ}
 use mathlib.Core.Path.{_≡_}
 use mathlib.Core.List.{List}
-use Rattle.formats.specs.Outcome.{Outcome}
+use Rattle.refusals.specs.Outcome.{Outcome}
 use Rattle.texts.specs.declared.input.OneRead.{OneRead}
 use Rattle.texts.specs.declared.input.OneRead.the-variants.{More, End, Bad}
 use Rattle.texts.specs.declared.reading.Progress.{Progress}

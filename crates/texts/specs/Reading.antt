@@ -5,7 +5,7 @@ use mathlib.Core.Bool.{cond}
 use mathlib.Core.List.{List, [], _∷_, _++_}
 use lib.Dec.{eqb, ltb}
 use lib.ListN.{length, take, drop}
-use Rattle.formats.specs.Outcome.{Outcome, outcome}
+use Rattle.refusals.specs.Outcome.{Outcome, outcome}
 use Rattle.texts.specs.declared.reading.Character.{Character}
 use Rattle.texts.specs.declared.reading.Character.the-variants.{Bit, Skipped, Other}
 use Rattle.texts.specs.declared.reading.Progress.{Progress}

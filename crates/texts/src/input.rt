@@ -1,7 +1,7 @@
 // The whole of standard input, read as bits.
 ghost use Prim.Native.Nat.{_≤_};
 ghost use lib.ListN.{length};
-ghost use Rattle.formats.specs.Outcome.{outcome};
+ghost use Rattle.refusals.specs.Outcome.{outcome};
 ghost use Rattle.texts.specs.Input.{progressAfter, OfSomeText};
 use crate::faults::plus;
 use crate::faults::print_fault;

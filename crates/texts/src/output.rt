@@ -5,9 +5,8 @@ ghost use lib.ListN.{length};
 use crate::front;
 use crate::writing::write_text;
 use formats::format::Format;
-use formats::refusal;
-use formats::refusal::Refusal;
 use libc::STDOUT_FILENO;
+use refusals::Refusal;
 
 // Line one.
 pub fn print_header(kind: &[u8]) {
@@ -35,11 +34,11 @@ pub fn print_none() {
 
 // Line three of a refusal: its number, and for 4 the count of pairs tried.
 pub fn print_refused(refusal: Refusal) {
-    let number = refusal::number(refusal);
+    let number = refusals::number(refusal);
     io::write_all(STDOUT_FILENO, b"refused ");
     io::print_decimal(STDOUT_FILENO, number as u64);
     if number == 4 {
-        print_field(b"tried", refusal::tried(refusal) as u64);
+        print_field(b"tried", refusals::tried(refusal) as u64);
     }
     end_line();
 }

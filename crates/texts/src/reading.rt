@@ -4,7 +4,7 @@ ghost use mathlib.Core.Path.{_≡_};
 ghost use Prim.Native.Nat.{_≤_};
 ghost use mathlib.Core.List.{[], _∷_};
 ghost use lib.ListN.{length};
-ghost use Rattle.formats.specs.Outcome.{outcome};
+ghost use Rattle.refusals.specs.Outcome.{outcome};
 ghost use Rattle.texts.specs.Reading.{characterOf, takenInto};
 
 // What a byte of a text is.

@@ -1,8 +1,38 @@
 //! The proved calls, through their static library. Each takes what it is given
-//! and answers or refuses; nothing here panics. That the declarations are those
-//! of crates/balise/src/lib.rt, and the fields those of
-//! crates/balise/specs/AsNumber.antt, is tested and not proved.
-//! include/balise.h declares the same for C.
+//! and answers or refuses; nothing here panics.
+//!
+//! Bits are held one to a byte, 0 or 1, earliest sent first. An output has room
+//! for at least the bits that a call writes into its front; what is beyond them
+//! is kept, and a refusal keeps every byte.
+//!
+//! ```
+//! use balise::{Refusal, MAX_TELEGRAM_BITS, MAX_USER_BITS};
+//!
+//! let block = [1; 210];
+//! let mut output = [0; MAX_TELEGRAM_BITS];
+//! let encoded = balise::encode(&block, &mut output)?;
+//! let telegram = &output[..encoded.format.telegram_bits()];
+//! assert_eq!(balise::check(telegram), Ok(encoded.format));
+//!
+//! let window: Vec<u8> = telegram.iter().copied().cycle().skip(200).take(462).collect();
+//! let mut user = [0; MAX_USER_BITS];
+//! let reading = balise::read(&window, &mut user)?;
+//! assert_eq!((reading.b, reading.turn), (encoded.b, 200));
+//! assert_eq!(user[..reading.format.user_bits()], block);
+//! assert_eq!(balise::read(&window[1..], &mut user), Err(Refusal::Length));
+//! # Ok::<(), Refusal>(())
+//! ```
+//!
+//! That the declarations are those of crates/balise/src/lib.rt, the fields those
+//! of crates/balise/specs/AsNumber.antt, and the numbers of the refusals those of
+//! crates/formats/specs/Refused.antt, is tested and not proved. include/balise.h
+//! declares the same for C.
+
+mod format;
+mod refusal;
+
+pub use format::{Format, CAPTURE_LIMIT, MAX_TELEGRAM_BITS, MAX_USER_BITS, MAX_WINDOW_BITS};
+pub use refusal::Refusal;
 
 mod exported {
     unsafe extern "C" {
@@ -23,35 +53,15 @@ mod exported {
     }
 }
 
-#[derive(Clone, Copy, Debug, PartialEq, Eq)]
-pub enum Format {
-    Long,
-    Short,
-}
-
-impl Format {
-    /// The bits of a window.
-    pub const fn window_bits(self) -> usize {
-        match self {
-            Format::Long => 1100,
-            Format::Short => 462,
-        }
-    }
-}
-
-/// A refusal's number; the count of pairs tried is 0 except for number 4.
-#[derive(Clone, Copy, Debug, PartialEq, Eq)]
-pub struct Refused {
-    pub number: u8,
-    pub count: u32,
-}
-
-/// The first pair whose telegram is proper, and the pairs tried up to it.
+/// What the encoder found.
 #[derive(Clone, Copy, Debug, PartialEq, Eq)]
 pub struct Encoded {
     pub format: Format,
+    /// The scrambling bits of the first pair whose telegram is proper.
     pub b: u16,
+    /// Its extra shaping bits.
     pub esb: u16,
+    /// The pairs tried up to it.
     pub count: u32,
 }
 
@@ -59,22 +69,26 @@ pub struct Encoded {
 #[derive(Clone, Copy, Debug, PartialEq, Eq)]
 pub struct Reading {
     pub format: Format,
+    /// The scrambling bits.
     pub b: u16,
+    /// How far into the telegram the window begins.
     pub turn: usize,
+    /// Whether all bits of the window are flipped.
     pub flipped: bool,
 }
 
-/// The first place of a capture at which a window is read, and its reading.
+/// The first place of a capture at which a window is read.
 #[derive(Clone, Copy, Debug, PartialEq, Eq)]
 pub struct Found {
+    /// The bits of the capture before the window.
     pub place: usize,
     pub reading: Reading,
 }
 
-/// The fields of an answer that are not taken yet, the lowest first.
-struct Fields(u64);
+/// An answer as the library gives it, its lowest fields taken away.
+struct Answer(u64);
 
-impl Fields {
+impl Answer {
     /// The lowest bits, taken away.
     fn take(&mut self, bits: u32) -> u64 {
         let value = self.0 & ((1 << bits) - 1);
@@ -82,14 +96,19 @@ impl Fields {
         value
     }
 
-    fn number(&mut self) -> u8 {
-        self.take(8) as u8
-    }
-
     fn format(&mut self) -> Format {
         match self.take(1) {
             0 => Format::Long,
             _ => Format::Short,
+        }
+    }
+
+    fn encoded(&mut self) -> Encoded {
+        Encoded {
+            format: self.format(),
+            b: self.take(12) as u16,
+            esb: self.take(10) as u16,
+            count: self.take(23) as u32,
         }
     }
 
@@ -104,14 +123,42 @@ impl Fields {
             flipped,
         }
     }
+
+    fn found(&mut self) -> Found {
+        let reading = self.reading();
+        let place = self.take(16) as usize;
+        Found { place, reading }
+    }
+
+    /// The refusal with this number and what it carries.
+    fn refusal(&mut self, number: u8) -> Refusal {
+        match Refusal::of_number(number) {
+            Refusal::NoPair { .. } => Refusal::NoPair {
+                tried: self.encoded().count,
+            },
+            refusal => refusal,
+        }
+    }
+
+    /// What the fields say after the number 0, or the refusal.
+    fn result<T>(mut self, fields: impl FnOnce(&mut Answer) -> T) -> Result<T, Refusal> {
+        match self.take(8) as u8 {
+            0 => Ok(fields(&mut self)),
+            number => Err(self.refusal(number)),
+        }
+    }
 }
 
-/// Encodes a block. The first pair's telegram goes into the front of `output`;
-/// a refusal keeps every byte.
-pub fn encode(block: &[u8], output: &mut [u8]) -> Result<Encoded, Refused> {
+/// Encodes a block of [`Format::user_bits`], 830 or 210. The first pair's
+/// telegram goes into the front of `output`, which needs room for
+/// [`Format::telegram_bits`], 1023 or 341; [`MAX_TELEGRAM_BITS`] is enough for
+/// both. A refusal keeps every byte.
+///
+/// Refuses with `Length`, `NotBit`, `OutputShort` and `NoPair`.
+pub fn encode(block: &[u8], output: &mut [u8]) -> Result<Encoded, Refusal> {
     // SAFETY: the pointers and lengths are those of slices that do not overlap,
     // and the contract asks nothing.
-    let mut fields = Fields(unsafe {
+    let answer = Answer(unsafe {
         exported::balise_encode(
             block.as_ptr(),
             block.len(),
@@ -119,39 +166,29 @@ pub fn encode(block: &[u8], output: &mut [u8]) -> Result<Encoded, Refused> {
             output.len(),
         )
     });
-    let number = fields.number();
-    let encoded = Encoded {
-        format: fields.format(),
-        b: fields.take(12) as u16,
-        esb: fields.take(10) as u16,
-        count: fields.take(23) as u32,
-    };
-    if number == 0 {
-        Ok(encoded)
-    } else {
-        Err(Refused {
-            number,
-            count: encoded.count,
-        })
-    }
+    answer.result(Answer::encoded)
 }
 
-/// The format of a proper telegram.
-pub fn check(telegram: &[u8]) -> Result<Format, Refused> {
+/// The format of a proper telegram, of [`Format::telegram_bits`], 1023 or 341.
+///
+/// Refuses with `Length`, `NotBit`, `NotDivisible`, `NoTurn`, `Control`,
+/// `NotWord`, `OffStep`, `Repeating` and `Thinned`.
+pub fn check(telegram: &[u8]) -> Result<Format, Refusal> {
     // SAFETY: the pointer and the length are those of a slice, and the contract
     // asks nothing.
-    let mut fields = Fields(unsafe { exported::balise_check(telegram.as_ptr(), telegram.len()) });
-    match fields.number() {
-        0 => Ok(fields.format()),
-        number => Err(Refused { number, count: 0 }),
-    }
+    let answer = Answer(unsafe { exported::balise_check(telegram.as_ptr(), telegram.len()) });
+    answer.result(Answer::format)
 }
 
-/// Reads a window. Its user bits go into the front of `output`; a refusal keeps
-/// every byte.
-pub fn read(window: &[u8], output: &mut [u8]) -> Result<Reading, Refused> {
+/// Reads a window of [`Format::window_bits`], 1100 or 462. Its user bits go into
+/// the front of `output`, which needs room for [`Format::user_bits`], 830 or 210;
+/// [`MAX_USER_BITS`] is enough for both. A refusal keeps every byte.
+///
+/// Refuses with `Length`, `NotBit`, `OutputShort`, `EndsDiffer`, `NotDivisible`,
+/// `NoTurn`, `Control` and `NotWord`.
+pub fn read(window: &[u8], output: &mut [u8]) -> Result<Reading, Refusal> {
     // SAFETY: as for `encode`.
-    let mut fields = Fields(unsafe {
+    let answer = Answer(unsafe {
         exported::balise_read(
             window.as_ptr(),
             window.len(),
@@ -159,24 +196,17 @@ pub fn read(window: &[u8], output: &mut [u8]) -> Result<Reading, Refused> {
             output.len(),
         )
     });
-    match fields.number() {
-        0 => Ok(fields.reading()),
-        number => Err(Refused { number, count: 0 }),
-    }
+    answer.result(Answer::reading)
 }
 
-/// Searches a capture: places from 0 up, long before short at one place.
-pub fn search(capture: &[u8]) -> Result<Found, Refused> {
+/// Searches a capture of at most [`CAPTURE_LIMIT`] bits: places from 0 up, long
+/// before short at one place.
+///
+/// Refuses with `Length`, `NotBit` and `NoPlace`.
+pub fn search(capture: &[u8]) -> Result<Found, Refusal> {
     // SAFETY: as for `check`.
-    let mut fields = Fields(unsafe { exported::balise_search(capture.as_ptr(), capture.len()) });
-    match fields.number() {
-        0 => {
-            let reading = fields.reading();
-            let place = fields.take(16) as usize;
-            Ok(Found { place, reading })
-        }
-        number => Err(Refused { number, count: 0 }),
-    }
+    let answer = Answer(unsafe { exported::balise_search(capture.as_ptr(), capture.len()) });
+    answer.result(Answer::found)
 }
 
 /// The window that `search` finds, as a part of the capture itself; empty where

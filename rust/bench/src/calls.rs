@@ -1,7 +1,9 @@
 //! The public calls against the second program's.
 
 use crate::{heading, microseconds, plain, row, set, timed_row, INPUTS, SETS};
+use balise::MAX_USER_BITS;
 use second::format::{Format, FORMATS};
+use second::made::random_telegrams;
 use second::random::Random;
 use second::telegram::cut;
 use std::hint::black_box;
@@ -44,18 +46,6 @@ fn encode(blocks: &[Vec<u8>]) -> (Vec<f64>, Vec<f64>) {
     (ours, plain)
 }
 
-/// Proper telegrams of a format.
-fn telegrams(random: &mut Random, format: Format) -> Vec<Vec<u8>> {
-    (0..TELEGRAMS)
-        .map(|_| {
-            let mut output = vec![0; format.telegram_bits()];
-            let block = random.bits(format.user_bits());
-            second::encode_skipping(&block, &mut output).expect("a pair");
-            output
-        })
-        .collect()
-}
-
 /// Prints the rows of encoding for a format.
 fn encode_rows(random: &mut Random, format: Format) {
     let blocks: Vec<Vec<u8>> = (0..BLOCKS)
@@ -70,11 +60,15 @@ fn encode_rows(random: &mut Random, format: Format) {
     row(&name, our_worst, plain_worst, "1.0");
 }
 
-/// Prints the row of checking for a format.
+/// Prints the row of checking for a format. Plain Rust and the second program
+/// answer alike.
 fn check_row(random: &mut Random, proper: &[Vec<u8>], format: Format) {
     let inputs: Vec<Vec<u8>> = (0..SETS * INPUTS)
         .map(|_| proper[random.below(TELEGRAMS)].clone())
         .collect();
+    for telegram in set(&inputs, 0) {
+        assert_eq!(plain::check(telegram), second::check(telegram));
+    }
     let ours = |i| {
         for telegram in set(&inputs, i) {
             black_box(balise::check(black_box(telegram))).expect("a proper telegram");
@@ -99,7 +93,8 @@ fn read_row(random: &mut Random, proper: &[Vec<u8>], format: Format) {
             cut(telegram, turn, format.window_bits(), i % 2 == 1)
         })
         .collect();
-    let (mut out, mut plain_out, mut second_out) = ([0; 830], [0; 830], [0; 830]);
+    let mut out = [0; MAX_USER_BITS];
+    let (mut plain_out, mut second_out) = (out, out);
     for window in set(&inputs, 0) {
         let expected = second::read(window, &mut second_out);
         assert_eq!(plain::read(window, &mut plain_out), expected);
@@ -141,7 +136,7 @@ pub fn calls() {
     println!();
     heading();
     for format in FORMATS {
-        let proper = telegrams(&mut random, format);
+        let proper = random_telegrams(&mut random, format, TELEGRAMS);
         check_row(&mut random, &proper, format);
         read_row(&mut random, &proper, format);
     }

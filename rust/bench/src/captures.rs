@@ -1,8 +1,8 @@
 //! The search of a capture against the second program's, and how its time grows.
 
 use crate::{heading, microseconds, row};
-use second::cyclic::check_bits;
 use second::format::{Format, FORMATS};
+use second::made::{random_telegram, with_bits};
 use second::random::Random;
 use second::telegram::cut;
 use second::CAPTURE_LIMIT;
@@ -46,15 +46,9 @@ fn noise(random: &mut Random, length: usize) -> Vec<Vec<u8>> {
     (0..16).map(|_| random.bits(length)).collect()
 }
 
-fn telegram(random: &mut Random, format: Format) -> Vec<u8> {
-    let mut telegram = vec![0; format.telegram_bits()];
-    second::encode_skipping(&random.bits(format.user_bits()), &mut telegram).expect("a pair");
-    telegram
-}
-
 /// Noise with one window at its end. The bit before it is not the telegram's.
 fn at_the_end(random: &mut Random, format: Format) -> Vec<u8> {
-    let telegram = telegram(random, format);
+    let telegram = random_telegram(random, format);
     let turn = 1 + random.below(telegram.len() - 1);
     let mut capture = random.bits(CAPTURE_LIMIT - format.window_bits() - 1);
     capture.push(1 - telegram[turn - 1]);
@@ -69,11 +63,8 @@ fn at_the_end(random: &mut Random, format: Format) -> Vec<u8> {
 /// A telegram with other control bits, going round: at every place all but
 /// these is in order.
 fn other_control(random: &mut Random, format: Format) -> Vec<u8> {
-    let mut telegram = telegram(random, format);
-    telegram.truncate(format.telegram_bits() - 85);
-    telegram[format.shaped_bits()] ^= 1;
-    let check = check_bits(&telegram, format);
-    telegram.extend(check);
+    let telegram = random_telegram(random, format);
+    let telegram = with_bits(&telegram, format, format.shaped_bits(), &[1, 0, 1]);
     let capture = cut(&telegram, 0, CAPTURE_LIMIT, false);
     assert!(balise::search(&capture).is_err());
     capture

@@ -7,6 +7,8 @@ mod captures;
 mod gate;
 mod layer_rows;
 mod plain;
+#[cfg(test)]
+mod plain_tests;
 
 use second::random::Random;
 use std::process::exit;

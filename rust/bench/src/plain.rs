@@ -251,7 +251,8 @@ fn differing(bits: &[u8], place: usize, by: usize) -> usize {
     count
 }
 
-fn condition_3(format: Format, telegram: &[u8]) -> bool {
+/// Condition 3; a short telegram meets it.
+pub fn condition_3(format: Format, telegram: &[u8]) -> bool {
     format == Format::Short
         || (0..telegram.len()).step_by(11).all(|place| {
             differing(telegram, place, 341) >= 3

@@ -1,32 +1,34 @@
 //! The public calls of both programs on one input. They must answer the same
 //! and leave the same bytes.
 
+use balise::Refusal;
 use second::format::Format;
 use second::random::Random;
 use second::{Encoded, Found, Reading, Refused};
+use std::collections::BTreeMap;
 
 /// How often each number was answered; 0 stands for no refusal.
 #[derive(Default)]
-pub struct Tally([usize; 14]);
+pub struct Tally(BTreeMap<u8, usize>);
 
 impl Tally {
     pub fn add<T>(&mut self, answer: Result<T, u8>) {
-        self.0[usize::from(answer.err().unwrap_or(0))] += 1;
+        *self.0.entry(answer.err().unwrap_or(0)).or_default() += 1;
     }
 
     /// The numbers that were answered.
-    pub fn numbers(&self) -> Vec<usize> {
-        (0..14).filter(|&number| self.0[number] > 0).collect()
+    pub fn numbers(&self) -> Vec<u8> {
+        self.0.keys().copied().collect()
     }
 
     pub fn total(&self) -> usize {
-        self.0.iter().sum()
+        self.0.values().sum()
     }
 
     pub fn print(&self, what: &str) {
         println!("{} {what}", self.total());
-        for number in self.numbers() {
-            println!("{number:>4}: {}", self.0[number]);
+        for (number, count) in &self.0 {
+            println!("{number:>4}: {count}");
         }
     }
 }
@@ -47,10 +49,15 @@ fn reading(reading: balise::Reading) -> Reading {
     }
 }
 
-/// The number of a refusal that counts no pairs.
-fn number(refused: balise::Refused) -> u8 {
-    assert_eq!(refused.count, 0);
-    refused.number
+/// A refusal as the second program gives it.
+fn refused(refusal: Refusal) -> Refused {
+    Refused {
+        number: refusal.number(),
+        count: match refusal {
+            Refusal::NoPair { tried } => tried,
+            _ => 0,
+        },
+    }
 }
 
 /// Bytes on either side of an output, which must be kept.
@@ -97,10 +104,7 @@ pub fn encode(
             esb: encoded.esb,
             count: encoded.count,
         }),
-        Err(refused) => Err(Refused {
-            number: refused.number,
-            count: refused.count,
-        }),
+        Err(refusal) => Err(refused(refusal)),
     };
     compared(
         random,
@@ -113,14 +117,18 @@ pub fn encode(
 
 /// Checks a telegram.
 pub fn check(telegram: &[u8]) -> Result<Format, u8> {
-    let answer = balise::check(telegram).map(format).map_err(number);
+    let answer = balise::check(telegram).map(format).map_err(Refusal::number);
     assert_eq!(answer, second::check(telegram));
     answer
 }
 
 /// Reads a window into an output of this length: the answer and the output.
 pub fn read(random: &mut Random, window: &[u8], room: usize) -> (Result<Reading, u8>, Vec<u8>) {
-    let ours = |output: &mut [u8]| balise::read(window, output).map(reading).map_err(number);
+    let ours = |output: &mut [u8]| {
+        balise::read(window, output)
+            .map(reading)
+            .map_err(Refusal::number)
+    };
     compared(
         random,
         room,
@@ -145,8 +153,8 @@ pub fn search(random: &mut Random, capture: &[u8]) -> Result<Found, u8> {
             assert_eq!(answer.as_ref(), Ok(&found.reading));
             assert_eq!(user, found.user);
         }
-        (Err(refused), Err(other)) => {
-            assert_eq!(number(refused), *other);
+        (Err(refusal), Err(other)) => {
+            assert_eq!(refusal.number(), *other);
             assert!(stretch.is_empty());
         }
         (ours, found) => panic!("{ours:?}, and the second program {found:?}"),

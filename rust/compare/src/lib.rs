@@ -2,6 +2,9 @@
 //! with the second program.
 
 pub mod calls;
+pub mod documents;
+pub mod programs;
+pub mod refusals;
 pub mod telegrams;
 
 use second::format::{Format, FORMATS};
@@ -49,5 +52,38 @@ pub fn patterns(length: usize) -> Vec<Vec<u8>> {
 pub fn both_formats(seed: u64, test: impl Fn(Format, &mut Random)) {
     for format in FORMATS {
         test(format, &mut Random::new(seed));
+    }
+}
+
+/// The count that a variable of the environment asks for, or this one.
+pub fn asked(variable: &str, count: usize) -> usize {
+    match std::env::var(variable) {
+        Ok(text) => text
+            .parse()
+            .unwrap_or_else(|_| panic!("{variable} is a number")),
+        Err(_) => count,
+    }
+}
+
+/// Lists of every length up to 1,300 that is not one of these two: of bits, and
+/// with a byte that is none.
+pub fn other_lengths(random: &mut Random, lengths: [usize; 2]) -> Vec<Vec<u8>> {
+    let mut lists = Vec::new();
+    for length in (0..=1300).filter(|length| !lengths.contains(length)) {
+        let bits = random.bits(length);
+        if length > 0 {
+            let mut bytes = bits.clone();
+            bytes[random.below(length)] = 2 + random.below(254) as u8;
+            lists.push(bytes);
+        }
+        lists.push(bits);
+    }
+    lists
+}
+
+/// Changes some of these bits.
+pub fn burst(random: &mut Random, bits: &mut [u8]) {
+    for bit in bits {
+        *bit ^= random.bits(1)[0];
     }
 }

@@ -1,43 +1,15 @@
 //! Telegrams for the tests, made by the second program.
 
 use second::bits::{bits_of, distance, number_of};
-use second::cyclic::check_bits;
-use second::format::{Format, CHECK_BITS};
+use second::check;
+use second::cyclic::remainder_by_g;
+use second::format::Format;
+use second::made::{bits_of_words, random_word};
 use second::random::Random;
-use second::telegram::complete;
-use second::words::{valid, word, WORD_BITS};
-use second::{check, encode_skipping};
+use second::telegram::{complete, well_formed};
+use second::words::valid;
 
-/// The telegram of a block.
-pub fn telegram_of(block: &[u8]) -> Vec<u8> {
-    let mut output = vec![0; Format::Long.telegram_bits()];
-    let encoded = encode_skipping(block, &mut output).expect("a proper pair");
-    output.truncate(encoded.format.telegram_bits());
-    output
-}
-
-/// The telegrams of some random blocks.
-pub fn random_telegrams(random: &mut Random, format: Format, count: usize) -> Vec<Vec<u8>> {
-    (0..count)
-        .map(|_| telegram_of(&random.bits(format.user_bits())))
-        .collect()
-}
-
-/// A telegram with other bits at a place and its check bits put right again.
-pub fn with_bits(telegram: &[u8], format: Format, place: usize, bits: &[u8]) -> Vec<u8> {
-    let mut other = telegram.to_vec();
-    other[place..place + bits.len()].copy_from_slice(bits);
-    other.truncate(format.telegram_bits() - CHECK_BITS);
-    let check = check_bits(&other, format);
-    other.extend(check);
-    other
-}
-
-/// A telegram with another word, its check bits put right again.
-pub fn with_word(telegram: &[u8], format: Format, index: usize, word: u16) -> Vec<u8> {
-    let bits = bits_of(word.into(), WORD_BITS);
-    with_bits(telegram, format, WORD_BITS * index, &bits)
-}
+pub use second::made::{random_telegram, random_telegrams, telegram_of, with_bits, with_word};
 
 /// A word outside the table.
 pub fn other_word(random: &mut Random) -> u16 {
@@ -51,19 +23,23 @@ pub fn other_word(random: &mut Random) -> u16 {
 
 /// Draws words for the shaped data of a telegram.
 pub fn words(random: &mut Random, format: Format) -> Vec<u16> {
-    (0..format.blocks())
-        .map(|_| word(random.below(1024) as u16))
-        .collect()
+    (0..format.blocks()).map(|_| random_word(random)).collect()
 }
 
 /// Draws from few words.
 pub fn few_words(random: &mut Random, format: Format, kinds: usize) -> Vec<u16> {
-    let kinds: Vec<u16> = (0..kinds)
-        .map(|_| word(random.below(1024) as u16))
-        .collect();
+    let kinds: Vec<u16> = (0..kinds).map(|_| random_word(random)).collect();
     (0..format.blocks())
         .map(|_| kinds[random.below(kinds.len())])
         .collect()
+}
+
+/// Draws the words of a long telegram.
+pub type Draw = fn(&mut Random) -> Vec<u16>;
+
+/// One word over and over: what is cut off step repeats too.
+pub fn one_word(random: &mut Random) -> Vec<u16> {
+    few_words(random, Format::Long, 1)
 }
 
 /// A telegram whose shaped data is drawn and that is accepted, whatever its
@@ -75,10 +51,7 @@ pub fn drawn(
     accept: impl Fn(&[u8]) -> bool,
 ) -> Vec<u8> {
     loop {
-        let shaped: Vec<u8> = draw(random)
-            .iter()
-            .flat_map(|&word| bits_of(word.into(), WORD_BITS))
-            .collect();
+        let shaped = bits_of_words(&draw(random));
         for b in 16..4096 {
             let telegram = complete(&shaped, b, random.below(1024) as u16, format);
             if accept(&telegram) {
@@ -88,17 +61,40 @@ pub fn drawn(
     }
 }
 
+/// A well-formed telegram whose shaped data is drawn, and that `check` refuses
+/// with this number, whatever its pair.
+pub fn barred(
+    random: &mut Random,
+    format: Format,
+    draw: impl Fn(&mut Random) -> Vec<u16>,
+    number: u8,
+) -> Vec<u8> {
+    drawn(random, format, draw, |telegram| {
+        well_formed(telegram, format) && check(telegram) == Err(number)
+    })
+}
+
+/// Random bits of a telegram's length that g divides.
+pub fn divided(random: &mut Random, format: Format) -> Vec<u8> {
+    let degree = 75;
+    let mut bits = random.bits(format.telegram_bits() - degree);
+    bits.extend(vec![0; degree]);
+    let rest = remainder_by_g(&bits, format);
+    bits.truncate(format.telegram_bits() - degree);
+    bits.extend(bits_of(rest, degree));
+    bits
+}
+
 /// Shaped data of the long format that makes 31 words of the telegram thinned
 /// twice: every second bit of each of 31 pairs of words is a word.
 pub fn thinning_words(random: &mut Random) -> Vec<u16> {
     let mut shaped = words(random, Format::Long);
     for pair in shaped[..62].chunks_mut(2) {
         while {
-            let bits = [bits_of(pair[0].into(), 11), bits_of(pair[1].into(), 11)].concat();
-            let second: Vec<u8> = bits.into_iter().step_by(2).collect();
+            let second: Vec<u8> = bits_of_words(pair).into_iter().step_by(2).collect();
             !valid(number_of(&second) as u16)
         } {
-            pair.fill_with(|| word(random.below(1024) as u16));
+            pair.fill_with(|| random_word(random));
         }
     }
     shaped
@@ -111,6 +107,21 @@ pub fn repeating_words(random: &mut Random) -> Vec<u16> {
     let at = random.below(50);
     shaped.copy_within(at..at + 2, at + 31);
     shaped
+}
+
+/// Bits of a long telegram of which some stand again about a third of the way
+/// round, with so many changes.
+pub fn repeating_bits(random: &mut Random, changes: usize) -> Vec<u8> {
+    let n = Format::Long.telegram_bits();
+    let mut bits = random.bits(n);
+    let (from, shift) = (random.below(n), 338 + random.below(7));
+    for j in 0..8 + random.below(36) {
+        bits[(from + shift + j) % n] = bits[(from + j) % n];
+    }
+    for _ in 0..changes {
+        bits[random.below(n)] ^= 1;
+    }
+    bits
 }
 
 /// A proper long telegram, and a turn at which the first and the last 121 bits

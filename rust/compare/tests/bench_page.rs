@@ -2,18 +2,15 @@
 //! the repository's root, and writes what the page shows. README.md's first
 //! command writes a telegram.
 
+use compare::documents::document;
+use compare::programs::{repository, run, stdout, tool};
 use std::fs;
-use std::path::{Path, PathBuf};
-use std::process::Command;
+use std::process::{Command, Stdio};
 
 /// A command of a console block, and the lines shown below it.
 struct Example {
     command: String,
     output: String,
-}
-
-fn root() -> PathBuf {
-    Path::new(env!("CARGO_MANIFEST_DIR")).join("../..")
 }
 
 /// The texts of a page's blocks that are marked so.
@@ -49,14 +46,10 @@ fn examples(page: &str) -> Vec<Example> {
 /// What a command writes to standard output, at the repository's root; none
 /// where it fails.
 fn written(command: &str) -> Option<String> {
-    let ran = Command::new("sh")
-        .args(["-c", command])
-        .current_dir(root())
-        .output()
-        .expect("sh");
-    ran.status
-        .success()
-        .then(|| String::from_utf8(ran.stdout).expect("text"))
+    let mut shell = Command::new("sh");
+    shell.args(["-c", command]).current_dir(repository());
+    let ran = run(&mut shell, Stdio::inherit(), b"");
+    ran.status.success().then(|| stdout(&ran))
 }
 
 /// Removes the files of target/ that a command names: none of an earlier run
@@ -64,23 +57,15 @@ fn written(command: &str) -> Option<String> {
 fn remove_files_named(command: &str) {
     for word in command.split_whitespace() {
         if let Some(name) = word.strip_prefix("target/") {
-            let _ = fs::remove_file(root().join("target").join(name.trim_end_matches(';')));
+            let _ = fs::remove_file(repository().join("target").join(name.trim_end_matches(';')));
         }
     }
 }
 
-/// Whether the first word of a command names a program of this machine, the
-/// repository's or the shell's.
-fn can_run(command: &str) -> bool {
-    let word = command.split(' ').next().expect("a word");
-    written(&format!("command -v {word}")).is_some()
-}
-
-/// Commands with a C compiler or Python are run where there is one; what
-/// Python loads is made by the compiler.
+/// Commands with Python are run where there is one.
 #[test]
 fn the_pages_examples_write_what_it_shows() {
-    let page = fs::read_to_string(root().join("docs/BENCH.md")).expect("docs/BENCH.md");
+    let page = document("docs/BENCH.md");
     let examples = examples(&page);
     assert!(examples.len() > 20);
     for example in examples.iter().filter(|e| !e.command.starts_with("cc ")) {
@@ -90,22 +75,21 @@ fn the_pages_examples_write_what_it_shows() {
     for program in blocks(&page, "python") {
         let comment = program.strip_prefix("# ").expect("a comment first");
         let (name, _) = comment.split_once(':').expect("a name");
-        fs::write(root().join(name), program).expect("a program");
+        fs::write(repository().join(name), program).expect("a program");
     }
-    let c = can_run("cc");
+    let python = tool("python3").is_some();
     for Example { command, output } in examples {
-        let python = command.starts_with("python3 ");
-        if command.starts_with("cc ") && !c || python && !(c && can_run("python3")) {
-            println!("skipped: {command}");
-        } else {
+        if python || !command.starts_with("python3 ") {
             assert_eq!(written(&command), Some(output), "{command}");
+        } else {
+            println!("skipped: {command}");
         }
     }
 }
 
 #[test]
 fn the_readmes_first_command_writes_a_telegram() {
-    let page = fs::read_to_string(root().join("README.md")).expect("README.md");
+    let page = document("README.md");
     let first = page.lines().nth(2).expect("a third line");
     let command = first.split('`').nth(1).expect("a command");
     assert!(command.starts_with("./balise encode "));

@@ -3,10 +3,10 @@
 
 use compare::calls::{check, Tally};
 use compare::telegrams::*;
-use compare::{both_formats, patterns};
+use compare::{both_formats, burst, other_lengths, patterns};
 use second::appendices::appendix_b;
 use second::bits::{bits_of, flip, turn_left};
-use second::cyclic;
+use second::cyclic::remainder_by_g;
 use second::format::{Format, FORMATS};
 use second::random::Random;
 use second::telegram::{make, well_formed};
@@ -25,16 +25,11 @@ fn expect(tally: &mut Tally, telegram: &[u8], answer: Result<Format, u8>) {
 }
 
 fn lengths_and_bytes(tally: &mut Tally, random: &mut Random) {
-    for length in (0..=1200).filter(|length| ![341, 1023].contains(length)) {
-        let mut bytes = random.bits(length);
+    for bytes in other_lengths(random, [341, 1023]) {
         expect(tally, &bytes, Err(1));
-        if length > 0 {
-            bytes[random.below(length)] = 2 + random.below(254) as u8;
-            expect(tally, &bytes, Err(1));
-        }
     }
     for format in FORMATS {
-        let telegram = random_telegrams(random, format, 1).remove(0);
+        let telegram = random_telegram(random, format);
         for place in 0..telegram.len() {
             for value in [2, 3, 128, 255] {
                 let mut bytes = telegram.clone();
@@ -59,7 +54,7 @@ fn proper(tally: &mut Tally, random: &mut Random) {
 
 /// One to four changed bits at every place, and bursts.
 fn changed(tally: &mut Tally, random: &mut Random, format: Format) {
-    let telegram = random_telegrams(random, format, 1).remove(0);
+    let telegram = random_telegram(random, format);
     let n = telegram.len();
     for place in 0..n {
         let mut one = telegram.clone();
@@ -69,17 +64,15 @@ fn changed(tally: &mut Tally, random: &mut Random, format: Format) {
         for other in random.places(1 + place % 4, n) {
             more[other] ^= 1;
         }
-        let mut burst = one;
-        for bit in &mut burst[place..n.min(place + 75)] {
-            *bit ^= random.bits(1)[0];
-        }
-        compare(tally, [more, burst]);
+        let mut many = one;
+        burst(random, &mut many[place..n.min(place + 75)]);
+        compare(tally, [more, many]);
     }
 }
 
 /// Every turn but 0, and lists that g divides with any remainder by f.
 fn turned(tally: &mut Tally, random: &mut Random, format: Format) {
-    let telegram = random_telegrams(random, format, 1).remove(0);
+    let telegram = random_telegram(random, format);
     let n = telegram.len();
     for turn in 1..n {
         let bits = turn_left(&telegram, turn);
@@ -87,12 +80,8 @@ fn turned(tally: &mut Tally, random: &mut Random, format: Format) {
         expect(tally, &flip(&bits), Err(7));
     }
     for _ in 0..300 {
-        let mut bits = random.bits(n - 75);
-        bits.extend([0; 75]);
-        let rest = cyclic::remainder_by_g(&bits, format);
-        bits.truncate(n - 75);
-        bits.extend(bits_of(rest, 75));
-        assert_eq!(cyclic::remainder_by_g(&bits, format), 0);
+        let bits = divided(random, format);
+        assert_eq!(remainder_by_g(&bits, format), 0);
         compare(tally, [bits]);
     }
     compare(tally, patterns(n));
@@ -101,7 +90,7 @@ fn turned(tally: &mut Tally, random: &mut Random, format: Format) {
 }
 
 fn control_and_words(tally: &mut Tally, random: &mut Random, format: Format) {
-    let telegram = random_telegrams(random, format, 1).remove(0);
+    let telegram = random_telegram(random, format);
     let at = format.shaped_bits();
     for control in (0..8).filter(|&control| control != 1) {
         let other = with_bits(&telegram, format, at, &bits_of(control, 3));
@@ -142,16 +131,9 @@ fn conditions(tally: &mut Tally, random: &mut Random, format: Format) {
 }
 
 /// Long telegrams that one condition alone bars.
-fn one_condition(
-    tally: &mut Tally,
-    random: &mut Random,
-    draw: fn(&mut Random) -> Vec<u16>,
-    number: u8,
-) {
+fn one_condition(tally: &mut Tally, random: &mut Random, draw: Draw, number: u8) {
     for _ in 0..20 {
-        let telegram = drawn(random, Format::Long, draw, |t| {
-            well_formed(t, Format::Long) && second::check(t) == Err(number)
-        });
+        let telegram = barred(random, Format::Long, draw, number);
         expect(tally, &telegram, Err(number));
     }
 }

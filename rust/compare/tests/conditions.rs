@@ -1,29 +1,19 @@
 //! Conditions 2, 3 and 4 on made bits: runs of table words at and over each
 //! limit, and bits that repeat after a third of the telegram.
 
+use compare::long;
+use compare::telegrams::repeating_bits;
 use second::conditions::{
-    condition_2, condition_3, condition_4, off_step_limit, unthinned, THINNED_RUN,
+    condition_2, condition_3, condition_4, off_step, off_step_limit, unthinned, Course, THINNED_RUN,
 };
 use second::format::{Format, FORMATS};
+use second::made::{valid_words, with_stretch};
 use second::random::Random;
-use second::{bits, words};
 
-fn long(format: Format) -> bool {
-    format == Format::Long
-}
-
-/// `run` table words in a row from place p on, in a ring of zeros, whose words
-/// are barred wherever they are cut.
-fn ring_with_run(random: &mut Random, format: Format, p: usize, run: usize) -> Vec<u8> {
-    let n = format.telegram_bits();
-    let mut ring = vec![0; n];
-    for j in 0..run {
-        let word = words::word(random.below(1024) as u16);
-        for (i, bit) in bits::bits_of(word.into(), 11).into_iter().enumerate() {
-            ring[(p + 11 * j + i) % n] = bit;
-        }
-    }
-    ring
+/// `run` table words in a row from a place on, in a ring of zeros.
+fn ring_with_run(random: &mut Random, format: Format, place: usize, run: usize) -> Vec<u8> {
+    let stretch = valid_words(random, run);
+    with_stretch(format.telegram_bits(), place, &stretch)
 }
 
 #[test]
@@ -48,18 +38,39 @@ fn condition_2_agrees_at_its_limits() {
     }
 }
 
+/// Draws of a run over the end, for each step and place.
+const DRAWS: usize = 100;
+
+/// Whether a telegram tells the strip from the ring: condition 2 holds on the
+/// strip, on which both programs must agree, and fails round the ring.
+fn tells(telegram: &[u8], format: Format) -> bool {
+    let strip = condition_2(telegram, format);
+    assert_eq!(layers::off_step(long(format), telegram), strip);
+    strip && !off_step(telegram, format, Course::Ring)
+}
+
+/// Runs of one word more than the limit at step p, of which one word lies over
+/// the end, from b0 on to b(n-1), and `before` words before it: too long round
+/// the ring, and on the strip cut into two that are not. Such a run tells strip
+/// from ring unless its words, cut at another step, run too long on the strip.
+/// For each format, p and `before` there are some that do.
 #[test]
 fn condition_2_counts_on_the_strip() {
     let mut random = Random::new(22);
     for format in FORMATS {
         for p in 1..=10 {
-            for before in 1..=3 {
-                // a run that crosses from b0 to b(n-1)
-                let place = format.telegram_bits() + p - 11 * before;
-                let telegram = ring_with_run(&mut random, format, place, 5);
-                let expected = condition_2(&telegram, format);
-                assert_eq!(layers::off_step(long(format), &telegram), expected);
+            let limit = off_step_limit(p, format);
+            let mut telling = Vec::new();
+            for before in 0..=limit {
+                let place = format.telegram_bits() + p - 11 * (before + 1);
+                let runs = (0..DRAWS).map(|_| ring_with_run(&mut random, format, place, limit + 1));
+                telling.push(runs.filter(|run| tells(run, format)).count());
             }
+            println!(
+                "{}, p {p}: of {DRAWS} runs with 0, 1, .. words before the end tell strip from ring: {telling:?}",
+                format.name()
+            );
+            assert!(telling.iter().all(|&count| count > 0));
         }
     }
 }
@@ -89,17 +100,9 @@ fn condition_4_agrees_at_its_limit() {
 #[test]
 fn condition_3_agrees_on_bits_that_repeat() {
     let mut random = Random::new(24);
-    let n = Format::Long.telegram_bits();
     let (mut holds, mut fails) = (0, 0);
     for round in 0..600 {
-        let mut telegram = random.bits(n);
-        let (from, shift) = (random.below(n), 338 + random.below(7));
-        for j in 0..8 + random.below(36) {
-            telegram[(from + shift + j) % n] = telegram[(from + j) % n];
-        }
-        for _ in 0..round % 6 {
-            telegram[random.below(n)] ^= 1;
-        }
+        let telegram = repeating_bits(&mut random, round % 6);
         let expected = condition_3(&telegram, Format::Long);
         assert_eq!(layers::not_repeating(true, &telegram), expected);
         holds += usize::from(expected);

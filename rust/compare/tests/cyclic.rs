@@ -54,6 +54,18 @@ fn numbers_of_the_formats() {
 }
 
 #[test]
+fn sizes_of_the_wrapper() {
+    for (ours, format) in balise::Format::ALL.into_iter().zip(FORMATS) {
+        assert_eq!(ours.user_bits(), format.user_bits());
+        assert_eq!(ours.words(), format.words());
+        assert_eq!(ours.telegram_bits(), format.telegram_bits());
+        assert_eq!(ours.extra_bits(), format.extra_bits());
+        assert_eq!(ours.window_bits(), format.window_bits());
+    }
+    assert_eq!(balise::CAPTURE_LIMIT, second::CAPTURE_LIMIT);
+}
+
+#[test]
 fn random_bits() {
     both_formats(31, |format, random| {
         for length in 0..=1100 {

@@ -1,8 +1,9 @@
 //! Encoding: the pair, the count and every byte of the output.
 
 use compare::calls::{encode, Encoder};
-use compare::{both_formats, patterns};
+use compare::{asked, both_formats, other_lengths, patterns};
 use second::appendices::{appendix_b, block_without_a_pair};
+use second::conditions::{off_step, Course};
 use second::encode::PAIRS;
 use second::format::Format;
 use second::random::Random;
@@ -23,16 +24,9 @@ fn compare_block(random: &mut Random, block: &[u8]) -> (Encoded, Vec<u8>) {
 }
 
 /// Random blocks of each format: 100, or as BALISE_BLOCKS says.
-fn block_count() -> usize {
-    match std::env::var("BALISE_BLOCKS") {
-        Ok(count) => count.parse().expect("BALISE_BLOCKS is a number"),
-        Err(_) => 100,
-    }
-}
-
 fn compare_random_blocks(format: Format) {
     let mut random = Random::new(61);
-    for _ in 0..block_count() {
+    for _ in 0..asked("BALISE_BLOCKS", 100) {
         let block = random.bits(format.user_bits());
         compare_block(&mut random, &block);
     }
@@ -48,7 +42,9 @@ fn random_short_blocks() {
     compare_random_blocks(Format::Short);
 }
 
-/// The first pair is the printed one in five rows.
+/// The first pair is the printed one in five rows. In the others an earlier one
+/// is proper on the strip and not round the ring, so that they tell the two
+/// apart.
 #[test]
 fn blocks_of_appendix_b() {
     let mut random = Random::new(62);
@@ -60,6 +56,13 @@ fn blocks_of_appendix_b() {
         assert_eq!(encoded.format, format);
         let pair = (b_of(&telegram, format), esb_of(&telegram, format));
         assert_eq!((encoded.b, encoded.esb) == pair, output == telegram);
+        assert!(off_step(&telegram, format, Course::Ring));
+        assert_eq!(
+            off_step(&output, format, Course::Ring),
+            output == telegram,
+            "row {}",
+            row.number
+        );
         if output == telegram {
             printed.push(row.number);
         }
@@ -112,14 +115,9 @@ fn refuse(random: &mut Random, block: &[u8], room: usize, number: u8) {
 #[test]
 fn lengths_that_fit_no_format() {
     let mut random = Random::new(65);
-    for length in (0..=1200).filter(|length| ![210, 830].contains(length)) {
+    for block in other_lengths(&mut random, [210, 830]) {
         for room in [0, 340, 1022, 1023, 1100] {
-            let mut block = random.bits(length);
             refuse(&mut random, &block, room, 1);
-            if length > 0 {
-                block[random.below(length)] = 2;
-                refuse(&mut random, &block, room, 1);
-            }
         }
     }
 }

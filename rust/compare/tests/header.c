@@ -1,5 +1,5 @@
-/* Prints what the four calls answer on 462 zeros and on a capture from standard
- * input, one bit to a byte. */
+/* Prints the sizes, and what the four calls answer on 462 zeros and on a capture
+ * from standard input, one bit to a byte. */
 #include "balise.h"
 
 #include <stdio.h>
@@ -20,6 +20,11 @@ int main(void)
     size_t length, i;
     unsigned format;
     uint64_t answer;
+
+    for (format = BALISE_LONG; format <= BALISE_SHORT; format++)
+        printf("sizes %d %d %d\n", BALISE_USER_BITS(format), BALISE_TELEGRAM_BITS(format),
+               BALISE_WINDOW_BITS(format));
+    printf("limit %d\n", BALISE_CAPTURE_LIMIT);
 
     memset(user, 7, sizeof user);
     print_reading("read", balise_read(zeros, sizeof zeros, user, sizeof user));
@@ -53,6 +58,7 @@ int main(void)
     answer = balise_check(telegram, BALISE_TELEGRAM_BITS(format));
     printf("check %u %u\n", BALISE_NUMBER(answer), BALISE_FORMAT(answer));
     telegram[0] ^= 1;
-    printf("check %u\n", BALISE_NUMBER(balise_check(telegram, BALISE_TELEGRAM_BITS(format))));
-    return 0;
+    answer = balise_check(telegram, BALISE_TELEGRAM_BITS(format));
+    printf("check %u\n", BALISE_NUMBER(answer));
+    return BALISE_NUMBER(answer) != BALISE_REFUSED_NOT_DIVISIBLE;
 }

@@ -1,62 +1,46 @@
 //! A C program against include/balise.h and the static library: its answers are
 //! those of the balise package.
 
-use balise::{Format, Reading, Refused};
-use compare::telegrams::telegram_of;
+use balise::{Format, Reading, Refusal, CAPTURE_LIMIT, MAX_TELEGRAM_BITS, MAX_USER_BITS};
+use compare::programs::{repository, run, stdout};
+use compare::telegrams::random_telegram;
 use second::bits::text;
 use second::format::FORMATS;
 use second::random::Random;
 use second::telegram::cut;
 use std::fmt::Write as _;
-use std::io::{ErrorKind, Write};
 use std::path::{Path, PathBuf};
 use std::process::{Command, Stdio};
 
-/// Builds tests/header.c; none where there is no C compiler.
-fn built() -> Option<PathBuf> {
-    let package = Path::new(env!("CARGO_MANIFEST_DIR"));
-    let root = package.join("../..");
+/// Builds tests/header.c. Cargo needs the compiler too, as its linker.
+fn built() -> PathBuf {
     let program = Path::new(env!("CARGO_TARGET_TMPDIR")).join("header");
-    let status = Command::new("cc")
+    let built = Command::new("cc")
         .args(["-std=c99", "-Wall", "-Wextra", "-Wconversion", "-pedantic"])
         .args(["-Werror", "-O1", "-I"])
-        .arg(root.join("include"))
-        .arg(package.join("tests/header.c"))
-        .arg(root.join("target/staticlib/libbalise.a"))
+        .arg(repository().join("include"))
+        .arg(repository().join("rust/compare/tests/header.c"))
+        .arg(repository().join("target/staticlib/libbalise.a"))
         .arg("-o")
         .arg(&program)
-        .status();
-    match status {
-        Err(error) if error.kind() == ErrorKind::NotFound => None,
-        status => {
-            assert!(status.expect("cc runs").success());
-            Some(program)
-        }
-    }
+        .status()
+        .expect("a C compiler, cc");
+    assert!(built.success());
+    program
 }
 
-fn run(program: &Path, input: &[u8]) -> String {
-    let mut child = Command::new(program)
-        .stdin(Stdio::piped())
-        .stdout(Stdio::piped())
-        .spawn()
-        .expect("the program runs");
-    child
-        .stdin
-        .take()
-        .expect("a pipe")
-        .write_all(input)
-        .expect("it reads");
-    let output = child.wait_with_output().expect("an output");
-    assert!(output.status.success());
-    String::from_utf8(output.stdout).expect("text")
+/// What the program writes on this capture.
+fn written(program: &Path, capture: &[u8]) -> String {
+    let ran = run(&mut Command::new(program), Stdio::piped(), capture);
+    assert!(ran.status.success());
+    stdout(&ran)
 }
 
 fn format_bit(format: Format) -> u8 {
     u8::from(format == Format::Short)
 }
 
-fn reading_line(call: &str, answer: Result<Reading, Refused>) -> String {
+fn reading_line(call: &str, answer: Result<Reading, Refusal>) -> String {
     match answer {
         Ok(reading) => format!(
             "{call} 0 {} {} {} {}\n",
@@ -65,16 +49,27 @@ fn reading_line(call: &str, answer: Result<Reading, Refused>) -> String {
             reading.turn,
             u8::from(reading.flipped)
         ),
-        Err(refused) => format!("{call} {} 0 0 0 0\n", refused.number),
+        Err(refusal) => format!("{call} {} 0 0 0 0\n", refusal.number()),
     }
+}
+
+fn sizes() -> String {
+    let mut lines = String::new();
+    for format in Format::ALL {
+        let (m, n) = (format.user_bits(), format.telegram_bits());
+        writeln!(lines, "sizes {m} {n} {}", format.window_bits()).unwrap();
+    }
+    writeln!(lines, "limit {CAPTURE_LIMIT}").unwrap();
+    lines
 }
 
 /// What the C program is to write on this capture.
 fn expected(capture: &[u8]) -> String {
-    let mut user = [0; 830];
+    let mut user = [0; MAX_USER_BITS];
     let zeros = balise::read(&[0; 462], &mut user);
-    assert_eq!(zeros.unwrap_err().number, 7);
-    let mut lines = reading_line("read", zeros);
+    assert_eq!(zeros, Err(Refusal::NoTurn));
+    let mut lines = sizes();
+    lines += &reading_line("read", zeros);
     let answer = balise::search(capture);
     lines += &reading_line("search", answer.map(|found| found.reading));
     let place = answer.map_or(0, |found| found.place);
@@ -86,12 +81,9 @@ fn expected(capture: &[u8]) -> String {
     assert_eq!(reading, Ok(found.reading));
     lines += &reading_line("read", reading);
     let format = found.reading.format;
-    let (m, n) = match format {
-        Format::Long => (830, 1023),
-        Format::Short => (210, 341),
-    };
+    let (m, n) = (format.user_bits(), format.telegram_bits());
     writeln!(lines, "{}", text(&user[..m])).unwrap();
-    let mut telegram = [0; 1023];
+    let mut telegram = [0; MAX_TELEGRAM_BITS];
     let encoded = balise::encode(&user[..m], &mut telegram).expect("a pair");
     let bit = format_bit(encoded.format);
     writeln!(
@@ -104,25 +96,22 @@ fn expected(capture: &[u8]) -> String {
     let bit = format_bit(balise::check(&telegram[..n]).expect("a proper telegram"));
     writeln!(lines, "check 0 {bit}").unwrap();
     telegram[0] ^= 1;
-    let refused = balise::check(&telegram[..n]).unwrap_err();
-    writeln!(lines, "check {}", refused.number).unwrap();
+    let refusal = balise::check(&telegram[..n]).unwrap_err();
+    writeln!(lines, "check {}", refusal.number()).unwrap();
     lines
 }
 
 #[test]
 fn c_program() {
-    let Some(program) = built() else {
-        println!("skipped: there is no cc");
-        return;
-    };
+    let program = built();
     let mut random = Random::new(91);
     for format in FORMATS {
-        let telegram = telegram_of(&random.bits(format.user_bits()));
+        let telegram = random_telegram(&mut random, format);
         for flipped in [false, true] {
             let turn = random.below(telegram.len());
             let noise = random.bits(700);
             let capture = [noise, cut(&telegram, turn, 3000, flipped)].concat();
-            let output = run(&program, &capture);
+            let output = written(&program, &capture);
             assert_eq!(output, expected(&capture));
             assert!(output.contains("\ncheck 0 "));
         }
@@ -134,6 +123,6 @@ fn c_program() {
         random.bits(7501),
         vec![0; 462],
     ] {
-        assert_eq!(run(&program, &capture), expected(&capture));
+        assert_eq!(written(&program, &capture), expected(&capture));
     }
 }

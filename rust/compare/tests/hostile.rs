@@ -3,8 +3,8 @@
 //! is that of the second program.
 
 use compare::calls::{check, encode, read, search, Tally};
-use compare::patterns;
 use compare::telegrams::*;
+use compare::{asked, burst, patterns};
 use second::appendices::appendix_b;
 use second::bits::all_bits;
 use second::encode_skipping;
@@ -24,11 +24,7 @@ const ENCODED: usize = 100;
 
 /// A share of the calls, in hundredths.
 fn share(hundredths: usize) -> usize {
-    let calls: usize = match std::env::var("BALISE_CALLS") {
-        Ok(calls) => calls.parse().expect("BALISE_CALLS is a number"),
-        Err(_) => 200_000,
-    };
-    (calls * hundredths).div_ceil(100)
+    (asked("BALISE_CALLS", 200_000) * hundredths).div_ceil(100)
 }
 
 /// A source of inputs.
@@ -36,9 +32,6 @@ struct Inputs {
     random: Random,
     telegrams: Vec<Vec<u8>>,
 }
-
-/// Draws the words of a long telegram.
-type Draw = fn(&mut Random) -> Vec<u16>;
 
 impl Inputs {
     fn new(seed: u64) -> Inputs {
@@ -63,10 +56,8 @@ impl Inputs {
         }
         let draws = [(repeating_words as Draw, 11), (thinning_words, 12)];
         for (draw, number) in draws {
-            let format = Format::Long;
-            let accept = |t: &[u8]| well_formed(t, format) && second::check(t) == Err(number);
-            self.telegrams
-                .push(drawn(&mut self.random, format, draw, accept));
+            let telegram = barred(&mut self.random, Format::Long, draw, number);
+            self.telegrams.push(telegram);
         }
     }
 
@@ -125,11 +116,7 @@ impl Inputs {
                 0..=4 if place < list.len() => list[place] ^= 1,
                 5 | 6 => list.insert(place, self.random.bits(1)[0]),
                 7 | 8 if place < list.len() => drop(list.remove(place)),
-                9 => {
-                    for bit in &mut list[place..end] {
-                        *bit ^= self.random.bits(1)[0];
-                    }
-                }
+                9 => burst(&mut self.random, &mut list[place..end]),
                 10 => drop(list.drain(place..end)),
                 11 if place < list.len() && self.one_in(2) => {
                     list[place] = self.random.number() as u8;

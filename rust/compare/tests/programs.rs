@@ -2,28 +2,14 @@
 //! all that they write, to standard output and to standard error, is the same.
 //! Both are built before the tests run.
 
-use compare::telegrams::telegram_of;
+use compare::programs::{repository, run, stderr, stdout, Program, PROGRAMS};
+use compare::telegrams::{random_telegram, telegram_of};
 use second::bits::text;
 use second::format::FORMATS;
 use second::random::Random;
 use second::telegram::cut;
 use std::fs::File;
-use std::io::Write;
-use std::path::{Path, PathBuf};
 use std::process::{Command, Stdio};
-
-/// A program, the word by which the second program does the same, and how many
-/// bits it takes.
-const PROGRAMS: [(&str, &str, usize); 4] = [
-    ("encode_block", "encode", 830),
-    ("check_telegram", "check", 1023),
-    ("read_window", "read", 1100),
-    ("search_capture", "capture", 7500),
-];
-
-fn root() -> PathBuf {
-    Path::new(env!("CARGO_MANIFEST_DIR")).join("../..")
-}
 
 /// What a program writes, to standard output and to standard error.
 #[derive(Debug, PartialEq)]
@@ -32,46 +18,24 @@ struct Written {
     error: String,
 }
 
-/// What a program writes that gets its input from here, or from a pipe with
-/// these bytes.
-fn run(program: &Path, argument: Option<&str>, from: Stdio, input: &[u8]) -> Written {
-    let mut child = Command::new(program)
-        .args(argument)
-        .stdin(from)
-        .stdout(Stdio::piped())
-        .stderr(Stdio::piped())
-        .spawn()
-        .unwrap_or_else(|error| panic!("{}: {error}", program.display()));
-    if let Some(mut pipe) = child.stdin.take() {
-        // a program that has read enough may be gone before all is written
-        let _ = pipe.write_all(input);
-    }
-    let output = child.wait_with_output().expect("an output");
+/// What a program at this place writes.
+fn written(place: &str, argument: Option<&str>, from: Stdio, input: &[u8]) -> Written {
+    let mut command = Command::new(repository().join(place));
+    let ran = run(command.args(argument), from, input);
     Written {
-        output: String::from_utf8(output.stdout).expect("text"),
-        error: String::from_utf8(output.stderr).expect("text"),
+        output: stdout(&ran),
+        error: stderr(&ran),
     }
 }
 
 /// What both programs write, each with its input from such a place; on
 /// standard error one line for a bad text, and else nothing.
 fn agreed_from(kind: &str, from: impl Fn() -> Stdio, input: &[u8]) -> Written {
-    let (program, _, _) = PROGRAMS
-        .iter()
-        .find(|(_, word, _)| *word == kind)
-        .expect("a kind");
-    let ours = run(
-        &root().join("target/bin").join(program),
-        None,
-        from(),
-        input,
-    );
-    let second = run(
-        &root().join("rust/target/release/second"),
-        Some(kind),
-        from(),
-        input,
-    );
+    let program = PROGRAMS.iter().find(|program| program.word == kind);
+    let ours = format!("target/bin/{}", program.expect("a kind").name);
+    let ours = written(&ours, None, from(), input);
+    let second = "rust/target/release/second";
+    let second = written(second, Some(kind), from(), input);
     assert_eq!(ours, second, "{kind}");
     let bad = ours.output.ends_with("bad\n");
     assert_eq!(ours.error.lines().count(), usize::from(bad), "{kind}");
@@ -112,7 +76,10 @@ fn other(random: &mut Random) -> u8 {
 
 #[test]
 fn bad_texts_and_lengths() {
-    for (_, kind, limit) in PROGRAMS {
+    for Program {
+        word: kind, limit, ..
+    } in PROGRAMS
+    {
         for length in [
             0, 1, 209, 210, 211, 340, 342, 461, 463, 829, 831, 1022, 1024, 1099, 1101,
         ] {
@@ -138,7 +105,10 @@ fn bad_texts_and_lengths() {
 #[test]
 fn faults_of_long_texts() {
     let mut random = Random::new(34);
-    for (_, kind, limit) in PROGRAMS {
+    for Program {
+        word: kind, limit, ..
+    } in PROGRAMS
+    {
         for round in 0..12 {
             let ends = 4096 + random.below(9000);
             let good = with_line_ends(&mut random, limit, ends);
@@ -171,8 +141,8 @@ fn faults_of_long_texts() {
 
 #[test]
 fn a_read_that_fails() {
-    for (_, kind, _) in PROGRAMS {
-        let folder = || Stdio::from(File::open(root()).expect("a folder"));
+    for Program { word: kind, .. } in PROGRAMS {
+        let folder = || Stdio::from(File::open(repository()).expect("a folder"));
         assert_eq!(
             agreed_from(kind, folder, b""),
             Written {
@@ -205,7 +175,7 @@ fn encode_then_check() {
 fn windows_and_captures() {
     let mut random = Random::new(32);
     for format in FORMATS {
-        let telegram = telegram_of(&random.bits(format.user_bits()));
+        let telegram = random_telegram(&mut random, format);
         for round in 0..30 {
             let turn = random.below(telegram.len());
             let mut window = cut(&telegram, turn, format.window_bits(), round % 2 == 1);

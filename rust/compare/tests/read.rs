@@ -2,11 +2,10 @@
 //! lowest that applies.
 
 use compare::calls::{read, Tally};
-use compare::patterns;
 use compare::telegrams::*;
+use compare::{burst, other_lengths, patterns};
 use second::appendices::appendix_b;
 use second::bits::bits_of;
-use second::cyclic;
 use second::format::{Format, FORMATS};
 use second::random::Random;
 use second::read::user_bits_of;
@@ -30,16 +29,13 @@ fn refuse(tally: &mut Tally, random: &mut Random, window: &[u8], room: usize, nu
 }
 
 fn lengths_bytes_and_room(tally: &mut Tally, random: &mut Random) {
-    for length in (0..=1300).filter(|length| ![462, 1100].contains(length)) {
-        let mut bytes = random.bits(length);
-        refuse(tally, random, &bytes, ROOM, 1);
-        if length > 0 {
-            bytes[random.below(length)] = 2;
-            refuse(tally, random, &bytes, 0, 1);
+    for bytes in other_lengths(random, [462, 1100]) {
+        for room in [0, ROOM] {
+            refuse(tally, random, &bytes, room, 1);
         }
     }
     for format in FORMATS {
-        let telegram = random_telegrams(random, format, 1).remove(0);
+        let telegram = random_telegram(random, format);
         let m = format.user_bits();
         let window = cut(&telegram, 7, format.window_bits(), false);
         for place in 0..window.len() {
@@ -107,11 +103,9 @@ fn changed(tally: &mut Tally, random: &mut Random, format: Format) {
                     }
                 }
                 compare(tally, random, &more);
-                let mut burst = one;
-                for bit in &mut burst[place..(n + r).min(place + 75)] {
-                    *bit ^= random.bits(1)[0];
-                }
-                compare(tally, random, &burst);
+                let mut many = one;
+                burst(random, &mut many[place..(n + r).min(place + 75)]);
+                compare(tally, random, &many);
             }
         }
     }
@@ -164,7 +158,7 @@ fn long_windows_of_short(tally: &mut Tally, random: &mut Random) {
 
 /// Windows of telegrams with other control bits or words.
 fn control_and_words(tally: &mut Tally, random: &mut Random, format: Format) {
-    let telegram = random_telegrams(random, format, 1).remove(0);
+    let telegram = random_telegram(random, format);
     let (n, at) = (format.telegram_bits(), format.shaped_bits());
     let mut others = Vec::new();
     for control in 0..8 {
@@ -203,9 +197,7 @@ fn any_bits(tally: &mut Tally, random: &mut Random, format: Format) {
         let bits = random.bits(l);
         compare(tally, random, &bits);
         compare(tally, random, &cut(&bits[..n], 0, l, false));
-        let raised = [&bits[..n - 75], &[0; 75]].concat();
-        let rest = cyclic::remainder_by_g(&raised, format);
-        let divided = [&bits[..n - 75], &bits_of(rest, 75)].concat();
+        let divided = divided(random, format);
         compare(tally, random, &cut(&divided, 0, l, false));
     }
 }

@@ -10,6 +10,7 @@ pub mod conditions;
 pub mod cyclic;
 pub mod encode;
 pub mod format;
+pub mod made;
 pub mod random;
 pub mod read;
 pub mod refusal;

@@ -1,16 +1,10 @@
 //! Searching captures.
 
 use second::format::{Format, FORMATS};
+use second::made::telegram_of;
 use second::random::Random;
 use second::telegram::cut;
-use second::{encode_skipping, search, stretch, CAPTURE_LIMIT};
-
-fn telegram_of(user: &[u8]) -> Vec<u8> {
-    let mut output = vec![0; 1023];
-    let encoded = encode_skipping(user, &mut output).unwrap();
-    output.truncate(encoded.format.telegram_bits());
-    output
-}
+use second::{search, stretch, CAPTURE_LIMIT};
 
 #[test]
 fn first_place() {

@@ -1,27 +1,10 @@
 //! The limits of conditions 2, 3 and 4 on made lists of n bits: runs 2 and 3,
 //! 6 and 7, 10 and 11, 30 and 31; differences 2 and 3, 1 and 2.
 
-use second::bits::bits_of;
 use second::conditions::*;
 use second::format::{Format, FORMATS};
+use second::made::{valid_words, with_stretch};
 use second::random::Random;
-use second::words;
-
-/// Some valid words, one after another.
-fn valid_words(random: &mut Random, count: usize) -> Vec<u8> {
-    (0..count)
-        .flat_map(|_| bits_of(words::word(random.below(1024) as u16).into(), 11))
-        .collect()
-}
-
-/// Zeros round the ring with a stretch put at a place.
-fn with_stretch(n: usize, place: usize, stretch: &[u8]) -> Vec<u8> {
-    let mut bits = vec![0; n];
-    for (j, &bit) in stretch.iter().enumerate() {
-        bits[(place + j) % n] = bit;
-    }
-    bits
-}
 
 /// n bits with a run of just `run` words at step p from word `first`, and no
 /// run over 2 at other steps.

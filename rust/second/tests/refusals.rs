@@ -4,25 +4,11 @@ use second::bits::{bits_of, flip, number_of};
 use second::conditions::{condition_2, condition_3, condition_4, thinned_run};
 use second::cyclic::{check_bits, remainder_by_g};
 use second::format::{Format, FORMATS};
+use second::made::{telegram_of, valid_words, with_bits, with_word};
 use second::random::Random;
 use second::telegram::{complete, cut, well_formed};
 use second::words::{valid, word};
-use second::{check, encode_skipping, read};
-
-fn telegram_of(user: &[u8]) -> Vec<u8> {
-    let mut output = vec![0; 1023];
-    let encoded = encode_skipping(user, &mut output).unwrap();
-    output.truncate(encoded.format.telegram_bits());
-    output
-}
-
-/// The telegram with its check bits put right again.
-fn rechecked(mut telegram: Vec<u8>, format: Format) -> Vec<u8> {
-    telegram.truncate(format.telegram_bits() - 85);
-    let check = check_bits(&telegram, format);
-    telegram.extend(check);
-    telegram
-}
+use second::{check, read};
 
 fn window_of(telegram: &[u8], format: Format, turn: usize, flipped: bool) -> Vec<u8> {
     cut(telegram, turn, format.window_bits(), flipped)
@@ -97,9 +83,7 @@ fn control_bits() {
         let telegram = telegram_of(&vec![0; format.user_bits()]);
         let at = format.shaped_bits();
         for control in 0..8 {
-            let mut other = telegram.clone();
-            other[at..at + 3].copy_from_slice(&bits_of(control, 3));
-            let other = rechecked(other, format);
+            let other = with_bits(&telegram, format, at, &bits_of(control, 3));
             let allowed = control == 1;
             assert_eq!(check(&other).err() == Some(8), !allowed);
             for flipped in [false, true] {
@@ -118,19 +102,15 @@ fn words() {
     for format in FORMATS {
         let telegram = telegram_of(&random.bits(format.user_bits()));
         for index in 0..format.blocks() {
-            let mut other = telegram.clone();
             let barred = (0..2048).find(|&w| !valid(w)).unwrap();
-            other[11 * index..11 * index + 11].copy_from_slice(&bits_of(barred.into(), 11));
-            let other = rechecked(other, format);
+            let other = with_word(&telegram, format, index, barred);
             assert_eq!(check(&other), Err(9));
             assert_eq!(read_number(&window_of(&other, format, 3, true)), Some(9));
         }
         let mut seen = [false; 10];
         for esb in 0..1024 {
-            let mut other = telegram.clone();
             let at = format.shaped_bits() + 15;
-            other[at..at + 10].copy_from_slice(&bits_of(esb, 10));
-            let other = rechecked(other, format);
+            let other = with_bits(&telegram, format, at, &bits_of(esb, 10));
             let last = &other[format.shaped_bits()..];
             let bad: Vec<usize> = (0..10)
                 .filter(|&i| !valid(number_of(&last[11 * i..11 * i + 11]) as u16))
@@ -193,23 +173,18 @@ fn conditions() {
 fn thinned() {
     let format = Format::Long;
     let mut random = Random::new(22);
-    let mut draw = |count| -> Vec<u8> {
-        (0..count)
-            .flat_map(|_| bits_of(word(random.below(1024) as u16).into(), 11))
-            .collect()
-    };
     let telegram = loop {
         let mut shaped = Vec::new();
         for _ in 0..31 {
             shaped.extend(loop {
-                let pair = draw(2);
+                let pair = valid_words(&mut random, 2);
                 let second: Vec<u8> = pair.iter().copied().step_by(2).collect();
                 if valid(number_of(&second) as u16) {
                     break pair;
                 }
             });
         }
-        shaped.extend(draw(21));
+        shaped.extend(valid_words(&mut random, 21));
         let found = (16..4096).find_map(|b| {
             let telegram = complete(&shaped, b, b % 1024, format);
             let fine = well_formed(&telegram, format)

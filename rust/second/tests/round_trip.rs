@@ -2,19 +2,12 @@
 //! the two encoders compared.
 
 use second::format::{Format, FORMATS};
+use second::made::{encoded, telegram_of};
 use second::random::Random;
 use second::read::{read, user_bits_of, Reading};
 use second::scrambling::{descramble, replace_first, restore_first, scramble};
 use second::telegram::{b_of, cut, esb_of, make, well_formed};
-use second::{check, encode, encode_skipping, Encoded};
-
-/// The telegram that the quicker encoder writes.
-fn telegram_of(user: &[u8]) -> (Encoded, Vec<u8>) {
-    let mut output = vec![0; Format::Long.telegram_bits()];
-    let encoded = encode_skipping(user, &mut output).unwrap();
-    output.truncate(encoded.format.telegram_bits());
-    (encoded, output)
-}
+use second::{check, encode, encode_skipping};
 
 /// A few blocks: zeros, ones, and some drawn.
 fn blocks(format: Format, drawn: usize, seed: u64) -> Vec<Vec<u8>> {
@@ -84,7 +77,7 @@ fn both_encoders_agree() {
 fn every_turn_reads_back() {
     for format in FORMATS {
         for user in blocks(format, 2, 6) {
-            let (encoded, telegram) = telegram_of(&user);
+            let (encoded, telegram) = encoded(&user);
             for turn in 0..format.telegram_bits() {
                 for flipped in [false, true] {
                     let window = cut(&telegram, turn, format.window_bits(), flipped);
@@ -108,7 +101,7 @@ fn every_turn_reads_back() {
 fn short_windows_of_long_telegrams() {
     let mut random = Random::new(7);
     for user in blocks(Format::Long, 4, 8) {
-        let (_, telegram) = telegram_of(&user);
+        let telegram = telegram_of(&user);
         for turn in 0..telegram.len() {
             let mut window = cut(&telegram, turn, 462, turn % 2 == 1);
             let mut output = [9; 210];
@@ -127,7 +120,7 @@ fn short_windows_of_long_telegrams() {
 #[test]
 fn long_windows_of_short_telegrams() {
     for user in blocks(Format::Short, 4, 9) {
-        let (_, telegram) = telegram_of(&user);
+        let telegram = telegram_of(&user);
         for turn in 0..telegram.len() {
             for flipped in [false, true] {
                 let window = cut(&telegram, turn, 1100, flipped);

@@ -6,8 +6,8 @@ use borrow.Author.Needs.{needs}
 use lib.ListN.{length}
 use Rattle.captures.specs.declared.Capture.the-variants.{Found}
 use Rattle.captures.specs.Captures.{searchOf}
-use Rattle.captures.proofs.Attempts.{lent-window}
-use Rattle.captures.proofs.FirstPlace.{stretch-found, stretch-none, found-fits}
+use Rattle.captures.proofs.Places.{window-lent}
+use Rattle.captures.proofs.Exact.{stretch-found, stretch-none, found-fits}
 use Rattle.captures.proofs.stretch.Statement.{statement}
 use Rattle.captures.proofs.stretch.Tie as tie
 
@@ -27,13 +27,12 @@ returns : tie.Need-returns
 returns c =
     let told = c .before in
     let call = told .before .before in
-    sym
-    (stretch-none (call .before .before .args .capture .now) (told .enum-told .given .0 .0) (sym (call .search .ensures .0) ∙ told .enum-told .given .1))
+    sym (stretch-none (call .before .before .args .capture .now) (told .enum-told .given .0 .0) (sym (call .search .ensures) ∙ told .enum-told .given .1))
 
 -- the place and the reading that the search found
 found-there : (c : tie.After-place) →
     searchOf (c .before .before .before .before .args .capture .now) ≡ Found (c .place .given .0 .0) (c .place .given .0 .1 .0)
-found-there c = sym (c .before .before .search .ensures .0) ∙ c .place .given .1
+found-there c = sym (c .before .before .search .ensures) ∙ c .place .given .1
 
 -- the window there is whole
 fits : (c : tie.After-window-bits) →
@@ -66,7 +65,7 @@ returns-2 c =
     let place = there .place .given .0 .0 in
     let reading = there .place .given .0 .1 .0 in
     let s = there .before .before .before .before .args .capture .now in
-    lent-window (reading .format) s place (size .window-bits .result) (size .window-bits .ensures)
+    window-lent (reading .format) s place (size .window-bits .result) (size .window-bits .ensures) (found-fits s place reading (found-there there))
     ∙ sym (stretch-found s place reading (found-there there))
 
 pub stretch-spec : {M : Type 1} → statement M

@@ -1,60 +1,70 @@
--- `checker::check_form` meets its contract: a lemma for each test reached. Assumes nothing.
+-- `checker::check_form` meets its contract: a verdict for each test reached. Assumes nothing.
 use borrow.Author.Needs.{needs}
-use borrow.Author.Tests.{not-true, not-false}
+use borrow.Author.Tests.{not-true, not-false, eq-eqb}
 use mathlib.Core.Path.{_≡_, sym, ap, _∙_}
+use mathlib.Core.Bool.{true}
 use Prim.Native.Nat.{ℕ}
 use native.Mathlib.Omega.{arith}
+use lib.ListN.{drop}
+use Rattle.bits.specs.Bits.{allBits, same}
 use Rattle.bits.proofs.Tests.{is-true, holds}
 use Rattle.formats.specs.Numbers.{numbersOf}
-use Rattle.telegrams.specs.Fields.{allWords}
+use Rattle.refusals.specs.declared.Refusal.{Refusal}
+use Rattle.refusals.specs.Table.{Verdict, answerBy}
+use Rattle.refusals.proofs.Table.{Decides, passed, failed}
+use Rattle.cyclic.specs.Check.{divisible, unturned}
+use Rattle.telegrams.specs.Telegram.{control}
+use Rattle.telegrams.specs.Fields.{controlOf, allWords}
 use Rattle.conditions.proofs.Sizes.{words-fill}
-use Rattle.checker.specs.Checking.{checkAs}
-use Rattle.checker.proofs.Steps.{fromDivisible, fromTurn, fromControl, fromWords, past-bits, divisible-refused, past-divisible, turn-refused, past-turn, control-refused, past-control, words-refused}
+use Rattle.checker.specs.declared.Checked.the-variants.{Proper, Refused}
+use Rattle.checker.specs.Checking.{checkTable, checkAs}
+use Rattle.checker.proofs.Steps.{decided}
 use Rattle.checker.proofs.WellFormed.{well-formed}
 use Rattle.checker.proofs.check_form.Statement.{statement}
 use Rattle.checker.proofs.check_form.Tie as tie
 
-at-divisible : (c : tie.Start) → checkAs (c .args .format) (c .args .telegram .now) ≡ fromDivisible (c .args .format) (c .args .telegram .now)
-at-divisible c = past-bits _ _ (is-true _ (c .pre .0))
+-- what the tests from divisibility on decide
+answered : (c : tie.Start) (v : Verdict Refusal) → Decides (drop 2 (checkTable (c .args .format) (c .args .telegram .now))) v
+    → answerBy Refused (Proper (c .args .format)) v ≡ checkAs (c .args .format) (c .args .telegram .now)
+unfolding checkTable
+answered c v d = sym (decided _ _ v (passed (eq-eqb _ _ (c .pre .1)) (passed (is-true (allBits (c .args .telegram .now)) (c .pre .0)) d)))
 
 divisible-requires : tie.Need-divisible-requires
 divisible-requires c κs = search needs
 
 returns : tie.Need-returns
-returns c =
-    sym (divisible-refused _ _ (at-divisible (c .before .before .before))
-    (sym (c .before .divisible .ensures) ∙ not-true _ (c .if1 .taken)))
+unfolding checkTable
+returns c = answered (c .before .before .before) _ (failed (sym (c .before .divisible .ensures) ∙ not-true _ (c .if1 .taken)))
 
-at-turn : (c : tie.Else1) → let a = c .before .before .before .args in checkAs (a .format) (a .telegram .now) ≡ fromTurn (a .format) (a .telegram .now)
-at-turn c =
-    past-divisible _ _ (at-divisible (c .before .before .before))
-    (sym (c .before .divisible .ensures) ∙ not-false _ (c .if1 .left))
+divides : (c : tie.Else1) → let a = c .before .before .before .args in divisible (numbersOf (a .format)) (a .telegram .now) ≡ true
+divides c = sym (c .before .divisible .ensures) ∙ not-false _ (c .if1 .left)
 
 unturned-requires : tie.Need-unturned-requires
 unturned-requires c κs = search needs
 
 returns-2 : tie.Need-returns-2
+unfolding checkTable
 returns-2 c =
-    sym (turn-refused _ _ (at-turn (c .before .before))
-    (sym (c .before .unturned .ensures) ∙ not-true _ (c .if2 .taken)))
+    let at1 = c .before .before in
+    answered (at1 .before .before .before) _ (passed (divides at1) (failed (sym (c .before .unturned .ensures) ∙ not-true _ (c .if2 .taken))))
 
-at-control : (c : tie.Else2) → let a = c .before .before .before .before .before .args in checkAs (a .format) (a .telegram .now) ≡ fromControl (a .format) (a .telegram .now)
-at-control c =
-    past-turn _ _ (at-turn (c .before .before))
-    (sym (c .before .unturned .ensures) ∙ not-false _ (c .if2 .left))
+turned-0 : (c : tie.Else2) → let a = c .before .before .before .before .before .args in unturned (numbersOf (a .format)) (a .telegram .now) ≡ true
+turned-0 c = sym (c .before .unturned .ensures) ∙ not-false _ (c .if2 .left)
 
 has-control-requires : tie.Need-has-control-requires
 has-control-requires c κs = search needs
 
 returns-3 : tie.Need-returns-3
+unfolding checkTable
 returns-3 c =
-    sym (control-refused _ _ (at-control (c .before .before))
-    (sym (c .before .has-control .ensures) ∙ not-true _ (c .if3 .taken)))
+    let at2 = c .before .before in
+    let at1 = at2 .before .before in
+    answered (at1 .before .before .before) _
+    (passed (divides at1) (passed (turned-0 at2) (failed (sym (c .before .has-control .ensures) ∙ not-true _ (c .if3 .taken)))))
 
-at-words : (c : tie.Else3) → let a = c .before .before .before .before .before .before .before .args in checkAs (a .format) (a .telegram .now) ≡ fromWords (a .format) (a .telegram .now)
-at-words c =
-    past-control _ _ (at-control (c .before .before))
-    (sym (c .before .has-control .ensures) ∙ not-false _ (c .if3 .left))
+controlled : (c : tie.Else3) → let a = c .before .before .before .before .before .before .before .args in
+    same (controlOf (numbersOf (a .format)) (a .telegram .now)) control ≡ true
+controlled c = sym (c .before .has-control .ensures) ∙ not-false _ (c .if3 .left)
 
 words-requires : tie.Need-words-requires
 words-requires c κs = search needs
@@ -73,25 +83,28 @@ words-tested c =
     c .all-words .ensures ∙ ap (λ (k : ℕ). allWords k (a .telegram .now)) (c .before .words .ensures)
 
 returns-4 : tie.Need-returns-4
+unfolding checkTable
 returns-4 c =
-    sym (words-refused _ _ (at-words (c .before .before .before))
-    (sym (words-tested (c .before)) ∙ not-true _ (c .if4 .taken)))
+    let at3 = c .before .before .before in
+    let at2 = at3 .before .before in
+    let at1 = at2 .before .before in
+    answered (at1 .before .before .before) _
+    (passed (divides at1) (passed (turned-0 at2) (passed (controlled at3) (failed (sym (words-tested (c .before)) ∙ not-true _ (c .if4 .taken))))))
 
 check-conditions-requires : tie.Need-check-conditions-requires
 check-conditions-requires c κs =
-    let at4 = c .before in
-    let at3 = at4 .before .before .before in
+    let at3 = c .before .before .before in
     let at2 = at3 .before .before in
     let at1 = at2 .before .before in
-    let start = at1 .before .before in
+    let start = at1 .before .before .before in
     well-formed (start .args .format) (start .args .telegram .now)
     record {
       size = start .pre .1;
       bits = start .pre .0;
-      divides = holds _ (sym (at1 .divisible .ensures) ∙ not-false _ (at2 .before .if1 .left));
-      turn = holds _ (sym (at2 .unturned .ensures) ∙ not-false _ (at3 .before .if2 .left));
-      has-control = holds _ (sym (at3 .has-control .ensures) ∙ not-false _ (at4 .before .before .if3 .left));
-      all-words = holds _ (sym (words-tested at4) ∙ not-false _ (c .if4 .left));
+      divides = holds _ (divides at1);
+      turn = holds _ (turned-0 at2);
+      has-control = holds _ (controlled at3);
+      all-words = holds _ (sym (words-tested (c .before)) ∙ not-false _ (c .if4 .left));
     }
 
 returns-5 : tie.Need-returns-5

@@ -7,50 +7,47 @@ use borrow.Author.Tests.{not-true, not-false}
 use lib.ListN.{length}
 use Rattle.bits.specs.Bits.{allBits}
 use Rattle.bits.proofs.Tests.{holds}
-use Rattle.formats.specs.declared.format.Fit.the-variants.{As}
-use Rattle.formats.specs.Numbers.{long, short, fitOf}
-use Rattle.formats.proofs.Numbered.{outcome-numbered}
-use Rattle.encoder.specs.Encoding.{encodedValues}
-use Rattle.encoder.proofs.Steps.{length-refused, length-fits, bits-refused, room-refused, searched, block-size}
+use Rattle.formats.specs.declared.format.Format.{Format}
+use Rattle.formats.specs.Numbers.{numbersOf}
+use Rattle.encoder.proofs.Steps.{length-refused, bits-refused, room-refused}
 use Rattle.encoder.proofs.encode.Statement.{statement}
 use Rattle.encoder.proofs.encode.Tie as tie
 
 of-length-requires : tie.Need-of-length-requires
 of-length-requires c κs = search needs
 
-enum-known-format : tie.Need-enum-known-format
-enum-known-format c = search needs
+user-bits-requires : tie.Need-user-bits-requires
+user-bits-requires c κs = search needs
 
-enum-told : tie.Need-enum-told
-enum-told c = search needs
+-- the block, the output and the format
+abbrev start : tie.After-user-bits → tie.Start
+start c = c .before .before .before .before
+
+abbrev format : tie.After-user-bits → Format
+format c = c .before .of-length .result
 
 returns : tie.Need-returns
 returns c =
-    let call = c .before .before in
-    let a = call .before .before .before .args in
-    outcome-numbered encodedValues _ _ _
-    (length-refused (a .block .now) (a .output .now) (sym (call .of-length .ensures) ∙ c .enum-told .given .1))
+    let a = start (c .before) .args in
+    length-refused (format (c .before)) (a .block .now) (a .output .now) (c .before .before .of-length .ensures) (λ e. omega arith)
 
--- the length is that of the format
-fits : (c : tie.After-known-told) →
-    fitOf (long .m) (short .m) (length (c .before .before .before .before .before .before .args .block .now)) ≡ As (c .before .format .given .0 .0)
-fits c = sym (c .before .before .before .of-length .ensures) ∙ c .before .format .given .1
+-- the length is the format's
+size : (c : tie.Else1) → length (start (c .before) .args .block .now) ≡ numbersOf (format (c .before)) .m
+size c = omega arith
 
 all-bits-requires : tie.Need-all-bits-requires
 all-bits-requires c κs = search needs
 
 returns-2 : tie.Need-returns-2
 returns-2 c =
-    let known = c .before .before in
-    let a = known .before .before .before .before .before .before .args in
-    let format = known .before .format .given .0 .0 in
-    outcome-numbered encodedValues _ _ _
-    (length-fits format (a .block .now) (a .output .now) (fits known)
-    ∙ bits-refused format (a .block .now) (a .output .now) (sym (c .before .all-bits .ensures) ∙ not-true _ (c .if1 .taken)))
+    let sized = c .before .before in
+    let a = start (sized .before) .args in
+    bits-refused (format (sized .before)) (a .block .now) (a .output .now) (size sized)
+    (sym (c .before .all-bits .ensures) ∙ not-true _ (c .if2 .taken))
 
 -- every byte is 0 or 1
-all : (c : tie.Else1) → allBits (c .before .before .before .before .before .before .before .before .args .block .now) ≡ true
-all c = sym (c .before .all-bits .ensures) ∙ not-false _ (c .if1 .left)
+all : (c : tie.Else2) → allBits (start (c .before .before .before) .args .block .now) ≡ true
+all c = sym (c .before .all-bits .ensures) ∙ not-false _ (c .if2 .left)
 
 telegram-bits-requires : tie.Need-telegram-bits-requires
 telegram-bits-requires c κs = search needs
@@ -58,44 +55,27 @@ telegram-bits-requires c κs = search needs
 returns-3 : tie.Need-returns-3
 returns-3 c =
     let bits = c .before .before in
-    let known = bits .before .before in
-    let a = known .before .before .before .before .before .before .args in
-    let format = known .before .format .given .0 .0 in
-    outcome-numbered encodedValues _ _ _
-    (length-fits format (a .block .now) (a .output .now) (fits known)
-    ∙ room-refused format (a .block .now) (a .output .now) (all bits) (omega arith))
+    let sized = bits .before .before in
+    let a = start (sized .before) .args in
+    room-refused (format (sized .before)) (a .block .now) (a .output .now) (size sized) (all bits) (omega arith)
 
 write-first-requires : tie.Need-write-first-requires
 write-first-requires c κs =
     let bits = c .before .before .before in
-    let known = bits .before .before in
-    let a = known .before .before .before .before .before .before .args in
-    let format = known .before .format .given .0 .0 in
-    (holds _ (all bits), (block-size format (length (a .block .now)) (fits known), omega arith))
+    record { bits = holds _ (all bits); size = size (bits .before .before); room = omega arith }
 
 same-length : tie.Need-same-length
 same-length c = search needs
 
 returns-4 : tie.Need-returns-4
-returns-4 c =
-    let call = c .before .before in
-    let room = call .before .before in
-    let bits = room .before .before in
-    let known = bits .before .before in
-    let a = known .before .before .before .before .before .before .args in
-    let format = known .before .format .given .0 .0 in
-    outcome-numbered encodedValues _ _ _
-    (length-fits format (a .block .now) (a .output .now) (fits known)
-    ∙ searched format (a .block .now) (a .output .now) (all bits) (omega arith)
-    ∙ call .write-first .ensures)
+returns-4 c = c .before .before .write-first .ensures
 
 pub encode-spec : {M : Type 1} → statement M
 encode-spec =
     tie.close
     (tie.spec
     of-length-requires
-    enum-known-format
-    enum-told
+    user-bits-requires
     returns
     all-bits-requires
     returns-2

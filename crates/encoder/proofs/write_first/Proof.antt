@@ -2,7 +2,8 @@
 use mathlib.Core.Path.{sym, _∙_}
 use borrow.Author.Needs.{needs}
 use Rattle.encoder.specs.Encoding.{firstPair}
-use Rattle.encoder.proofs.Steps.{pair-written, none-written}
+use Rattle.encoder.proofs.Pairs.{searched-pair, searched-none}
+use Rattle.encoder.proofs.Steps.{pair-given, none-refused}
 use Rattle.encoder.proofs.write_first.Statement.{statement}
 use Rattle.encoder.proofs.write_first.Tie as tie
 
@@ -18,9 +19,10 @@ enum-told c = search needs
 returns : tie.Need-returns
 returns c =
     let call = c .before .before in
-    let a = call .before .before .before .args in
-    none-written (a .format) (a .block .now) (a .output .now) (firstPair (a .format) (a .block .now))
-    (sym (call .first-pair .ensures) ∙ c .enum-told .given .1)
+    let s = call .before .before .before in
+    let a = s .args in
+    none-refused (a .format) (a .block .now) (a .output .now) (s .pre)
+    (searched-none (firstPair (a .format) (a .block .now)) (sym (call .first-pair .ensures) ∙ c .enum-told .given .1))
 
 make-requires : tie.Need-make-requires
 make-requires c κs = search needs
@@ -48,12 +50,12 @@ returns-2 c =
     let made = c .before .before in
     let pair = made .before .before .before in
     let call = pair .before .before in
-    let a = call .before .before .before .args in
+    let s = call .before .before .before in
+    let a = s .args in
     let B = pair .scrambling .given .0 .0 in
     let esb = pair .scrambling .given .0 .1 .0 in
-    pair-written (a .format) (a .block .now) (a .output .now) (made .make .last .1 .1 .1 .1 .0) (firstPair (a .format) (a .block .now)) B esb
-    (sym (call .first-pair .ensures) ∙ pair .scrambling .given .1)
-    (made .make .ensures)
+    let first = searched-pair (firstPair (a .format) (a .block .now)) B esb (sym (call .first-pair .ensures) ∙ pair .scrambling .given .1) in
+    rw (made .make .ensures) (pair-given (a .format) (a .block .now) (a .output .now) (s .pre) B esb (first .0) (first .1))
 
 pub write-first-spec : {M : Type 1} → statement M
 write-first-spec =

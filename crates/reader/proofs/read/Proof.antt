@@ -1,45 +1,49 @@
 -- `reader::read` meets its contract: refused by its length or a byte, or what `read_bits` answers. Assumes nothing.
-use mathlib.Core.Path.{_≡_, sym, _∙_}
-use lib.ListN.{length}
+use mathlib.Core.Path.{_≡_, sym, ap, _∙_}
+use native.Mathlib.Omega.{arith}
 use borrow.Author.Needs.{needs}
 use borrow.Author.Tests.{not-true, not-false}
+use lib.ListN.{length}
 use Rattle.bits.specs.Bits.{allBits}
 use Rattle.bits.proofs.Tests.{holds}
-use Rattle.formats.specs.declared.format.Fit.the-variants.{As}
-use Rattle.formats.specs.Numbers.{long, short, windowBits, fitOf}
-use Rattle.formats.proofs.Numbered.{outcome-numbered}
-use Rattle.reader.specs.Reads.{readValues}
-use Rattle.reader.proofs.Steps.{length-refused, length-fits, bits-refused, window-size}
+use Rattle.formats.specs.declared.format.Format.{Format}
+use Rattle.formats.specs.Numbers.{numbersOf, windowBits}
+use Rattle.reader.specs.Reads.{readAs, readOf}
+use Rattle.reader.proofs.Steps.{length-refused, bits-refused}
 use Rattle.reader.proofs.read.Statement.{statement}
 use Rattle.reader.proofs.read.Tie as tie
 
 add-of-length : tie.Need-add-of-length
 add-of-length c = search needs
 
-add-of-length-2 : tie.Need-add-of-length-2
-add-of-length-2 c = search needs
-
 of-length-requires : tie.Need-of-length-requires
 of-length-requires c κs = search needs
 
-enum-known-format : tie.Need-enum-known-format
-enum-known-format c = search needs
+window-bits-requires : tie.Need-window-bits-requires
+window-bits-requires c κs = search needs
 
-enum-told : tie.Need-enum-told
-enum-told c = search needs
+-- a window is read as its length's format
+read-is : (c : tie.After-of-length) →
+    let a = c .before .before .before .args in
+    readOf (a .window .now) (a .output .now) ≡ readAs (c .of-length .result) (a .window .now) (a .output .now)
+unfolding readOf
+read-is c =
+    let a = c .before .before .before .args in
+    ap (λ (f : Format). readAs f (a .window .now) (a .output .now)) (sym (c .of-length .ensures))
 
 returns : tie.Need-returns
 returns c =
-    let fit = c .before .before in
-    let a = fit .before .before .before .args in
-    outcome-numbered readValues _ _ _
-    (length-refused (a .window .now) (a .output .now) (sym (fit .of-length .ensures) ∙ c .enum-told .given .1))
+    let picked = c .before .before in
+    let a = picked .before .before .before .args in
+    read-is picked
+    ∙ length-refused (picked .of-length .result) (a .window .now) (a .output .now)
+    (λ size. omega arith)
 
--- the format that the length picks
-picked : (c : tie.After-known-told) →
-    let w = c .before .before .before .before .before .before .args .window .now in
-    fitOf (windowBits long) (windowBits short) (length w) ≡ As (c .before .format .given .0 .0)
-picked c = sym (c .before .before .before .of-length .ensures) ∙ c .before .format .given .1
+-- the length is that of the format picked
+size : (c : tie.Else1) →
+    let picked = c .before .before in
+    length (picked .before .before .before .args .window .now) ≡ windowBits (numbersOf (picked .of-length .result))
+size c = omega arith
 
 all-bits-requires : tie.Need-all-bits-requires
 all-bits-requires c κs = search needs
@@ -47,21 +51,18 @@ all-bits-requires c κs = search needs
 returns-2 : tie.Need-returns-2
 returns-2 c =
     let call = c .before in
-    let told = call .before in
-    let a = told .before .before .before .before .before .before .args in
-    let format = told .before .format .given .0 .0 in
-    outcome-numbered readValues _ _ _
-    (length-fits format (a .window .now) (a .output .now) (picked told)
-    ∙ bits-refused format (a .window .now) (a .output .now) (sym (call .all-bits .ensures) ∙ not-true _ (c .if1 .taken)))
+    let picked = call .before .before .before in
+    let a = picked .before .before .before .args in
+    read-is picked
+    ∙ bits-refused (picked .of-length .result) (a .window .now) (a .output .now) (size (call .before))
+    (sym (call .all-bits .ensures) ∙ not-true _ (c .if2 .taken))
 
 read-bits-requires : tie.Need-read-bits-requires
 read-bits-requires c κs =
     let passed = c .before in
-    let told = passed .before .before in
-    let a = told .before .before .before .before .before .before .args in (
-      holds (allBits (a .window .now)) (sym (passed .before .all-bits .ensures) ∙ not-false _ (passed .if1 .left)),
-      window-size (told .before .format .given .0 .0) (length (a .window .now)) (picked told),
-    )
+    let call = passed .before in
+    let w = call .before .before .before .before .before .before .args .window .now in
+    (holds (allBits w) (sym (call .all-bits .ensures) ∙ not-false _ (passed .if2 .left)), size (call .before))
 
 same-length : tie.Need-same-length
 same-length c = search needs
@@ -69,20 +70,15 @@ same-length c = search needs
 returns-3 : tie.Need-returns-3
 returns-3 c =
     let answer = c .before .before in
-    let told = answer .before .before .before .before in
-    let a = told .before .before .before .before .before .before .args in
-    outcome-numbered readValues _ _ _
-    (length-fits (told .before .format .given .0 .0) (a .window .now) (a .output .now) (picked told) ∙ answer .read-bits .ensures)
+    read-is (answer .before .before .before .before .before .before) ∙ answer .read-bits .ensures
 
 pub read-spec : {M : Type 1} → statement M
 read-spec =
     tie.close
     (tie.spec
     add-of-length
-    add-of-length-2
     of-length-requires
-    enum-known-format
-    enum-told
+    window-bits-requires
     returns
     all-bits-requires
     returns-2

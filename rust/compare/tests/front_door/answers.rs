@@ -1,7 +1,9 @@
 //! What is written, and the exit status.
 
-use crate::scratch::{assert_answer, assert_no_answer, repository, stderr, stdout, Scratch};
+use crate::scratch::{assert_answer, assert_no_answer, Scratch};
 use crate::{example, proper, BAD, PROPER};
+use compare::documents::{meanings, Meaning};
+use compare::programs::{stderr, stdout};
 use std::fs;
 
 /// The four commands, each with an input that is accepted.
@@ -99,39 +101,20 @@ fn what_is_wrong_with_a_bad_input() {
     assert_eq!(stderr(&ran), "balise: file: character 195 at byte 6\n");
 }
 
-/// The columns "what it means" and "what to do" of the page, by number.
-fn meanings() -> Vec<(usize, String, String)> {
-    let page = fs::read_to_string(repository().join("docs/BENCH.md")).expect("the page");
-    let rows = page.lines().filter_map(|line| {
-        let cells: Vec<&str> = line
-            .strip_prefix("| ")?
-            .strip_suffix(" |")?
-            .split(" | ")
-            .collect();
-        let number = cells[0].parse().ok()?;
-        let plain = |text: &str| text.replace('`', "");
-        Some((number, plain(cells[2]), plain(cells[3])))
-    });
-    rows.collect()
-}
-
 #[test]
 fn what_a_refusal_means() {
     let meanings = meanings();
-    assert_eq!(
-        meanings.iter().map(|row| row.0).collect::<Vec<_>>(),
-        (1..=13).collect::<Vec<_>>()
-    );
     let scratch = Scratch::built();
     scratch.write("file", "01");
     // not where standard error is no terminal
     assert_eq!(stderr(&scratch.balise(&["check", "file"], b"")), "");
     for (command, result, number) in [("read", "refused 1", 1), ("search", "none", 13)] {
+        let row = meanings.iter().find(|row| row.number == number);
+        let Meaning { means, advice, .. } = row.expect("a row");
         let line = format!("./balise {command} file >answer");
         let Some(said) = scratch.at_a_terminal(&line, "") else {
             return;
         };
-        let (_, means, advice) = &meanings[number - 1];
         let words = format!("balise: file: {result}: {means}. What to do: {advice}\n");
         assert_eq!(said, words);
         let answer = fs::read_to_string(scratch.path("answer")).expect("an answer");
@@ -153,7 +136,12 @@ fn a_terminal() {
 #[test]
 fn each_refusal_has_its_words() {
     let scratch = Scratch::new();
-    for (number, means, advice) in meanings() {
+    for row in meanings() {
+        let Meaning {
+            number,
+            means,
+            advice,
+        } = row;
         scratch.program(
             "check_telegram",
             &format!("printf 'balise check 1\\nbits 1\\nrefused {number} tried 5\\n'"),

@@ -1,7 +1,8 @@
 //! When a program is built, and what is said of it.
 
-use crate::scratch::{assert_answer, assert_no_answer, stderr, Scratch, PROGRAMS};
+use crate::scratch::{assert_answer, assert_no_answer, Scratch};
 use crate::{proper, PROPER};
+use compare::programs::{run, stderr, PROGRAMS};
 use std::io::{BufRead, BufReader};
 use std::process::{Child, Stdio};
 
@@ -46,7 +47,7 @@ fn build_builds_all() {
     let scratch = Scratch::new();
     assert_answer(&scratch.balise(&["build"], b""), 0, "");
     for program in PROGRAMS {
-        assert!(scratch.proved().iter().any(|name| name == program));
+        assert!(scratch.proved().iter().any(|name| name == program.name));
     }
     let count = scratch.proved().len();
     assert_answer(&scratch.balise(&["build"], b""), 0, "");
@@ -109,15 +110,17 @@ fn a_copy_needs_no_toolchain() {
     let scratch = Scratch::built();
     let ran = scratch.shell("cp -r . ../\"${PWD##*/}\"-copy && mv ../\"${PWD##*/}\"-copy copy && rm -rf crates target balise");
     assert!(ran.status.success(), "{ran:?}");
-    let ran = scratch.ran(
+    let ran = run(
         scratch.command("copy/balise", false).arg("check"),
+        Stdio::piped(),
         proper().as_bytes(),
     );
     assert_answer(&ran, 0, PROPER);
     // also where nothing can be written
     scratch.shell("chmod -R a-w copy");
-    let ran = scratch.ran(
+    let ran = run(
         scratch.command("copy/balise", false).arg("check"),
+        Stdio::piped(),
         proper().as_bytes(),
     );
     assert_answer(&ran, 0, PROPER);

@@ -1,8 +1,9 @@
 //! An answer only for the file named: in each of these tests a telegram fit to
 //! burn stands on standard input, and the file named is another.
 
-use crate::scratch::{assert_answer, assert_no_answer, stderr, tool, Scratch};
+use crate::scratch::{assert_answer, assert_no_answer, Scratch};
 use crate::{proper, BAD, PROPER};
+use compare::programs::{stderr, tool};
 use std::fs::{self, File};
 use std::os::fd::AsRawFd;
 use std::os::unix::fs::{MetadataExt, PermissionsExt};

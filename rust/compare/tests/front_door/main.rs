@@ -7,7 +7,7 @@ mod builds;
 mod inputs;
 mod scratch;
 
-use std::fs;
+use compare::documents::document;
 
 /// A telegram fit to burn, as a text.
 fn proper() -> String {
@@ -16,8 +16,7 @@ fn proper() -> String {
 
 /// What a program is run on by the toolchain.
 fn example(program: &str) -> String {
-    let path = scratch::repository().join("crates").join(program);
-    fs::read_to_string(path.join("stdin")).expect(program)
+    document(&format!("crates/{program}/stdin"))
 }
 
 const PROPER: &str = "balise check 1\nbits 1023\nlong proper\n";

@@ -2,19 +2,13 @@
 //! and a toolchain that proves nothing: its `rt` puts the programs of the
 //! repository's `target/bin` in their places.
 
+use compare::programs::{repository, run, stderr, stdout, tool, PROGRAMS};
 use std::fs;
 use std::os::unix::fs::{symlink, PermissionsExt};
 use std::path::{Path, PathBuf};
 use std::process::{Command, Output, Stdio};
 use std::sync::atomic::{AtomicUsize, Ordering};
-use std::{env, io::Write, process};
-
-pub const PROGRAMS: [&str; 4] = [
-    "encode_block",
-    "check_telegram",
-    "read_window",
-    "search_capture",
-];
+use std::{env, process};
 
 /// What the script calls.
 const TOOLS: [&str; 21] = [
@@ -68,18 +62,6 @@ case $1 in
 esac
 "#;
 
-/// The repository's root.
-pub fn repository() -> PathBuf {
-    Path::new(env!("CARGO_MANIFEST_DIR")).join("../..")
-}
-
-/// The path of a command, if there is one.
-pub fn tool(name: &str) -> Option<PathBuf> {
-    env::split_paths(&env::var_os("PATH")?)
-        .map(|folder| folder.join(name))
-        .find(|path| path.is_file())
-}
-
 /// Puts a program in its place. Another process writes it: what this one has
 /// open for writing, no other thread's child could run.
 fn install(from: &Path, to: &Path) {
@@ -111,11 +93,12 @@ impl Scratch {
         let page = "docs/BENCH.md";
         fs::copy(repository().join(page), root.join(page)).expect(page);
         let mut crates = String::from("texts: io libc # characters\n");
-        for name in PROGRAMS {
+        let programs = PROGRAMS.map(|program| program.name);
+        for name in programs {
             crates += &format!("{name}: texts\n");
         }
         scratch.write("crates.txt", &crates);
-        for name in ["texts"].iter().chain(&PROGRAMS) {
+        for name in ["texts"].iter().chain(&programs) {
             scratch.write(&format!("crates/{name}/src/file.rt"), name);
             scratch.write(&format!("crates/{name}/stdin"), "");
         }
@@ -123,7 +106,7 @@ impl Scratch {
             let tool = tool(name).unwrap_or_else(|| panic!("there is no {name}"));
             symlink(tool, root.join("tools").join(name)).expect("a link");
         }
-        for name in PROGRAMS {
+        for name in programs {
             let program = repository().join("target/bin").join(name);
             install(&program, &root.join("kit/programs").join(name));
         }
@@ -185,12 +168,14 @@ impl Scratch {
 
     /// `./balise` with this standard input.
     pub fn balise(&self, arguments: &[&str], input: &[u8]) -> Output {
-        self.ran(self.command("./balise", true).args(arguments), input)
+        let mut command = self.command("./balise", true);
+        run(command.args(arguments), Stdio::piped(), input)
     }
 
     /// `./balise` with this standard input where there is no toolchain.
     pub fn balise_alone(&self, arguments: &[&str], input: &[u8]) -> Output {
-        self.ran(self.command("./balise", false).args(arguments), input)
+        let mut command = self.command("./balise", false);
+        run(command.args(arguments), Stdio::piped(), input)
     }
 
     /// A line of the shell in this folder, with the commands of the machine.
@@ -200,7 +185,7 @@ impl Scratch {
         path.push(env::var_os("PATH").expect("a path"));
         let mut command = Command::new("bash");
         command.args(["-c", line]).current_dir(&self.root);
-        self.ran(command.env("PATH", path), b"")
+        run(command.env("PATH", path), Stdio::piped(), b"")
     }
 
     /// What a line of the shell writes to a terminal at which this is typed;
@@ -213,32 +198,12 @@ impl Scratch {
         let line = format!("printf '{typed}' | script -qec '{line}' /dev/null");
         Some(stdout(&self.shell(&line)).replace('\r', ""))
     }
-
-    pub fn ran(&self, command: &mut Command, input: &[u8]) -> Output {
-        let mut child = command
-            .stdin(Stdio::piped())
-            .stdout(Stdio::piped())
-            .stderr(Stdio::piped())
-            .spawn()
-            .expect("the command starts");
-        // what reads no standard input may be gone before all is written
-        let _ = child.stdin.take().expect("a pipe").write_all(input);
-        child.wait_with_output().expect("an output")
-    }
 }
 
 impl Drop for Scratch {
     fn drop(&mut self) {
         let _ = fs::remove_dir_all(&self.root);
     }
-}
-
-pub fn stdout(ran: &Output) -> String {
-    String::from_utf8(ran.stdout.clone()).expect("text")
-}
-
-pub fn stderr(ran: &Output) -> String {
-    String::from_utf8(ran.stderr.clone()).expect("text")
 }
 
 /// Nothing was answered: status 2, nothing on standard output, and these words

@@ -6,15 +6,17 @@ use native.Mathlib.Omega.{arith}
 use borrow.Author.Needs.{needs}
 use lib.ListN.{length, take}
 use lib.Seq.{length-take-le}
+use Rattle.bits.proofs.Left.{Left, left-all, left-fewer, left-found, left-none}
 use Rattle.formats.specs.Numbers.{numbersOf}
 use Rattle.formats.proofs.Sizes.{sizesOf}
+use Rattle.refusals.specs.Refused.{pairCount}
 use Rattle.cyclic.proofs.Formats.{factsOf}
 use Rattle.telegrams.specs.Telegram.{telegramOf}
 use Rattle.telegrams.proofs.Made.{bits-made, length-made}
 use Rattle.conditions.proofs.Sizes.{sizes}
-use Rattle.encoder.specs.Encoding.{pairCount, passes, firstPair}
+use Rattle.encoder.specs.Encoding.{passes, firstPair}
 use Rattle.encoder.specs.Searched.{madeProper, pairOf}
-use Rattle.encoder.proofs.Pairs.{Left, left-all, left-fewer, left-found, left-none, pair-searched, pair-passes}
+use Rattle.encoder.proofs.Pairs.{pair-searched, pair-passes}
 use Rattle.encoder.proofs.Tried.{block-ten, block-within, summed-bits, summed-size, shaped-front, Trying, trying-fits, trying-bits, tried-telegram, tried-next}
 use Rattle.encoder.proofs.search.first_pair.Statement.{statement}
 use Rattle.encoder.proofs.search.first_pair.Tie as tie

@@ -1,20 +1,19 @@
 -- `encoder::search::passes` meets its contract. Assumes nothing.
 use mathlib.Core.Path.{_≡_, sym, ap, _∙_}
-use mathlib.Core.Bool.{Bool, true, false}
+use mathlib.Core.Bool.{Bool, true, false, _&&_}
 use mathlib.Core.List.{List}
 use Prim.Native.Nat.{ℕ, _-_, _≤_}
 use native.Mathlib.Omega.{arith}
 use borrow.Author.Needs.{needs}
 use borrow.Author.Tests.{not-true, not-false}
 use lib.ListN.{length, drop, length-drop}
-use Rattle.bits.specs.Bits.{both}
 use Rattle.bits.proofs.AllBits.{allBits-drop}
 use Rattle.formats.specs.declared.format.Format.{Format}
 use Rattle.formats.specs.Numbers.{numbersOf}
 use Rattle.formats.proofs.Sizes.{sizesOf}
 use Rattle.telegrams.specs.Fields.{allWords}
 use Rattle.telegrams.proofs.Buffers.Fronts.{lent, lent-is}
-use Rattle.conditions.specs.Conditions.{offStep, notRepeating, thinnedOut}
+use Rattle.conditions.specs.Conditions.{offStepWithin, notRepeating, thinnedWithin}
 use Rattle.encoder.specs.Searched.{madeProper}
 use Rattle.encoder.proofs.search.passes.Statement.{statement}
 use Rattle.encoder.proofs.search.passes.Tie as tie
@@ -25,12 +24,12 @@ last c = omega (arith, sizesOf (c .args .format))
 
 -- the test of the last ten words gave x, and that of the conditions is the rest
 tested : (format : Format) (t : List ℕ) (x : Bool) → length t ≡ numbersOf format .n → allWords 10 (lent (length t - 110) t) ≡ x
-    → madeProper format t ≡ both x (both (offStep format t) (both (notRepeating format t) (thinnedOut format t)))
+    → madeProper format t ≡ x && (offStepWithin format t && (notRepeating format t && thinnedWithin format t))
 unfolding madeProper
 tested format t x size e =
-    let rest = both (offStep format t) (both (notRepeating format t) (thinnedOut format t)) in
-    ap (λ (n : ℕ). both (allWords 10 (drop (n - 110) t)) rest) (sym size)
-    ∙ ap (λ (b : Bool). both b rest) (ap (allWords 10) (sym (lent-is (length t - 110) t)) ∙ e)
+    let rest = offStepWithin format t && (notRepeating format t && thinnedWithin format t) in
+    ap (λ (n : ℕ). allWords 10 (drop (n - 110) t) && rest) (sym size)
+    ∙ ap (λ (b : Bool). b && rest) (ap (allWords 10) (sym (lent-is (length t - 110) t)) ∙ e)
 
 sub-at : tie.Need-sub-at
 sub-at c = last (c .before)

@@ -1,6 +1,6 @@
 -- `reader::telegram::read_telegram` meets its contract: the answer at each test, and the user bits where all are passed. Assumes nothing.
-use mathlib.Core.Path.{_≡_, sym, ap, ap₂, _∙_}
-use mathlib.Core.Bool.{true}
+use mathlib.Core.Path.{_≡_, refl, sym, ap, ap₂, _∙_}
+use mathlib.Core.Bool.{Bool, true, false}
 use mathlib.Core.List.{List, _++_}
 use Prim.Native.Nat.{ℕ, _*_}
 use native.Mathlib.Omega.{arith}
@@ -9,22 +9,31 @@ use borrow.Author.Tests.{not-true, not-false}
 use lib.ListN.{drop, replicate}
 use lib.Seq.{length-take-le}
 use Rattle.bits.specs.Bits.{same}
-use Rattle.bits.proofs.Tests.{holds}
-use Rattle.formats.specs.declared.refusal.Refusal.{Refusal}
+use Rattle.bits.proofs.Tests.{holds, clash}
 use Rattle.formats.specs.Numbers.{numbersOf, blocks}
-use Rattle.formats.specs.Outcome.{outcome}
+use Rattle.refusals.specs.Outcome.{outcome}
 use Rattle.formats.proofs.Sizes.{sizesOf}
+use Rattle.telegrams.specs.declared.undoing.Unshaped.the-variants.{Whole, NotWord}
 use Rattle.telegrams.specs.Telegram.{control}
 use Rattle.telegrams.specs.Fields.{controlOf, allWords, unshaped}
+use Rattle.telegrams.specs.Unshaped.{wholeIf}
 use Rattle.telegrams.proofs.Shaping.{length-unshaped, bits-unshaped}
 use Rattle.telegrams.proofs.Buffers.Completed.{block-fits}
-use Rattle.reader.specs.declared.ReadAnswer.the-variants.{Read, Refused}
+use Rattle.telegrams.proofs.Buffers.UserBits.{data-blocks, user-bits}
+use Rattle.reader.specs.declared.ReadAnswer.the-variants.{Read}
 use Rattle.reader.specs.Reads.{readingOf}
-use Rattle.reader.proofs.Steps.{control-refused, word-refused, accepted}
-use Rattle.reader.proofs.Parts.Answers.{refused-words, whole-words}
-use Rattle.reader.proofs.Parts.UserBits.{data-blocks, user-bits}
+use Rattle.reader.proofs.Steps.{control-refused, word-refused, telegram-read}
 use Rattle.reader.proofs.telegram.read_telegram.Statement.{statement}
 use Rattle.reader.proofs.telegram.read_telegram.Tie as tie
+
+-- what the answer of unshaping tells
+other-word : (x : Bool) → NotWord ≡ wholeIf x → x ≡ false
+other-word true e = clash cc
+other-word false e = refl
+
+whole-words : (x : Bool) → Whole ≡ wholeIf x → x ≡ true
+whole-words true e = refl
+whole-words false e = clash cc
 
 -- the array that the blocks go into
 abbrev zeros : List ℕ
@@ -57,37 +66,33 @@ unshape-requires c κs =
     let S = sizesOf (start .args .format) in
     (start .pre .0, (omega (arith, S), omega (arith, S, block-fits (start .args .format))))
 
-enum-known-answer : tie.Need-enum-known-answer
-enum-known-answer c = search needs
-
-returns-2 : tie.Need-returns-2
-returns-2 c =
-    let told = c .before in
-    let call = told .before .before .before in
-    let words = call .before .before in
-    let a = words .before .before .before .before .before .args in
-    let refusal = told .answer .given .0 .0 in
-    let known =
-    refused-words (allWords (words .words .result) (a .telegram .now)) refusal (sym (told .answer .given .1) ∙ call .unshape .ensures .0) in
-    word-refused (a .format) (a .t) (a .flipped) (a .telegram .now) (a .output .now) (controlled (words .before))
-    (ap (λ (k : ℕ). allWords k (a .telegram .now)) (sym (words .words .ensures)) ∙ known .0)
-    ∙ ap (λ (x : Refusal). outcome (Refused x) (a .output .now)) (sym (known .1))
-
 enum-told : tie.Need-enum-told
 enum-told c = search needs
 
+returns-2 : tie.Need-returns-2
+returns-2 c =
+    let call = c .before .before .before in
+    let words = call .before .before in
+    let a = words .before .before .before .before .before .args in
+    let other = other-word (allWords (words .words .result) (a .telegram .now)) (sym (c .enum-told .given .1) ∙ call .unshape .ensures .0) in
+    word-refused (a .format) (a .t) (a .flipped) (a .telegram .now) (a .output .now) (controlled (words .before))
+    (ap (λ (k : ℕ). allWords k (a .telegram .now)) (sym (words .words .ensures)) ∙ other)
+
+enum-told-2 : tie.Need-enum-told-2
+enum-told-2 c = search needs
+
 -- all words are in the table
-worded : (c : tie.After-enum-told) →
+worded : (c : tie.After-enum-told2) →
     let words = c .before .before .before .before .before in
     allWords (words .words .result) (words .before .before .before .before .before .args .telegram .now) ≡ true
 worded c =
     let call = c .before .before .before in
     let words = call .before .before in
     let b = words .before .before .before .before .before .args .telegram .now in
-    whole-words (allWords (words .words .result) b) (sym (c .enum-told .given .1) ∙ call .unshape .ensures .0)
+    whole-words (allWords (words .words .result) b) (sym (c .enum-told2 .given .1) ∙ call .unshape .ensures .0)
 
 -- and their blocks stand in the array
-filled : (c : tie.After-enum-told) →
+filled : (c : tie.After-enum-told2) →
     let call = c .before .before .before in
     let words = call .before .before in
     let b = words .before .before .before .before .before .args .telegram .now in
@@ -152,7 +157,7 @@ returns-3 c =
     user-bits F (sizesOf (a .format)) b u (drop (10 * words .words .result) zeros) (words .words .result) (bits .user-bits .result)
     (words .words .ensures) (bits .user-bits .ensures) (filled told)
     B B-is (a .output .now) (wrote .write-user-bits .last .1 .1 .0) (wrote .write-user-bits .ensures) in
-    accepted (a .format) (a .t) (a .flipped) b (a .output .now) (controlled (words .before))
+    telegram-read (a .format) (a .t) (a .flipped) b (a .output .now) (controlled (words .before))
     (ap (λ (k : ℕ). allWords k b) (sym (words .words .ensures)) ∙ worded told)
     ∙ ap₂ (λ (x : ℕ) (o : List ℕ). outcome (Read (record { format = a .format; scrambling = x; turn = a .t; flipped = a .flipped })) o)
     (sym B-is) (sym written)
@@ -166,9 +171,9 @@ read-telegram-spec =
     words-requires
     slice-aggregate-unshape
     unshape-requires
-    enum-known-answer
-    returns-2
     enum-told
+    returns-2
+    enum-told-2
     scrambling-bits-requires
     user-bits-requires
     array-share-prefix-unshaped

@@ -9,7 +9,8 @@ use lib.ListN.{length, take, drop, replicate}
 use Rattle.formats.specs.Numbers.{numbersOf}
 use Rattle.formats.proofs.Sizes.{sizesOf}
 use Rattle.telegrams.proofs.Buffers.Completed.{block-fits}
-use Rattle.reader.specs.Reads.{telegramIn, readTelegram}
+use Rattle.reader.specs.Reads.{telegramIn}
+use Rattle.reader.specs.AtTurn.{readTelegram, readAtTurn}
 use Rattle.reader.proofs.Parts.Found.{length-found, bits-found, found-front}
 use Rattle.reader.proofs.telegram.read_turned.Statement.{statement}
 use Rattle.reader.proofs.telegram.read_turned.Tie as tie
@@ -68,6 +69,7 @@ same-length : tie.Need-same-length
 same-length c = search needs
 
 returns : tie.Need-returns
+unfolding readAtTurn
 returns c =
     let answer = c .before .before in
     let bits = answer .before .before .before in

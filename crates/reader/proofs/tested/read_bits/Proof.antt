@@ -13,11 +13,11 @@ use Rattle.bits.proofs.Tests.{is-true}
 use Rattle.formats.specs.Numbers.{numbersOf, fOf}
 use Rattle.cyclic.specs.Remainder.{remainder}
 use Rattle.cyclic.specs.Check.{turnOf, divisible}
-use Rattle.cyclic.proofs.Laws.{turnOf-at}
 use Rattle.cyclic.proofs.Formats.{factsOf}
 use Rattle.cyclic.proofs.Machine.Lists.{remainder-list}
-use Rattle.reader.specs.Reads.{endsAgree}
+use Rattle.reader.specs.Reads.{endsAgree, turnFound}
 use Rattle.reader.proofs.Steps.{room-refused, ends-refused, divisible-refused, turn-refused, turn-found}
+use Rattle.reader.proofs.Turns.{found-leaves}
 use Rattle.reader.proofs.tested.read_bits.Statement.{statement}
 use Rattle.reader.proofs.tested.read_bits.Tie as tie
 
@@ -31,7 +31,7 @@ returns : tie.Need-returns
 returns c =
     let start = c .before .before .before .before in
     let a = start .args in
-    room-refused (a .format) (a .window .now) (a .output .now) (bits start) (omega arith)
+    room-refused (a .format) (a .window .now) (a .output .now) (start .pre .1) (bits start) (omega arith)
 
 -- the output has room
 room : (c : tie.Else1) → let a = c .before .before .before .before .args in numbersOf (a .format) .m ≤ length (a .output .now)
@@ -45,7 +45,7 @@ returns-2 c =
     let call = c .before in
     let start = call .before .before .before .before .before in
     let a = start .args in
-    ends-refused (a .format) (a .window .now) (a .output .now) (bits start) (room (call .before))
+    ends-refused (a .format) (a .window .now) (a .output .now) (start .pre .1) (bits start) (room (call .before))
     (sym (call .ends-agree .ensures) ∙ not-true _ (c .if2 .taken))
 
 -- the ends agree
@@ -88,7 +88,7 @@ returns-3 c =
     let agreed = call .before .before .before in
     let start = agreed .before .before .before .before .before .before in
     let a = start .args in
-    divisible-refused (a .format) (a .window .now) (a .output .now) (bits start) (room (agreed .before .before)) (agree agreed)
+    divisible-refused (a .format) (a .window .now) (a .output .now) (start .pre .1) (bits start) (room (agreed .before .before)) (agree agreed)
     (tested call ∙ not-true _ (c .if3 .taken))
 
 slice-aggregate-remainder-f : tie.Need-slice-aggregate-remainder-f
@@ -106,8 +106,8 @@ turn-requires c κs = search needs
 -- the turn that the remainder by f belongs to
 turn-is : (c : tie.After-turn) →
     let a = c .before .before .before .before .before .before .before .before .before .before .before .before .before .args in
-    let F = numbersOf (a .format) in
-    turnOf F (remainder (fOf F) (take (F .n) (a .window .now))) ≡ c .turn .result
+    turnFound (numbersOf (a .format)) (a .window .now) ≡ c .turn .result
+unfolding turnFound
 turn-is c =
     let rest = c .before in
     let count = rest .before .before .before .before .before in
@@ -134,7 +134,7 @@ returns-4 c =
     let agreed = divided .before .before .before .before in
     let start = agreed .before .before .before .before .before .before in
     let a = start .args in
-    turn-refused (a .format) (a .window .now) (a .output .now) (bits start) (room (agreed .before .before)) (agree agreed)
+    turn-refused (a .format) (a .window .now) (a .output .now) (start .pre .1) (bits start) (room (agreed .before .before)) (agree agreed)
     (tested (divided .before) ∙ not-false _ (divided .if3 .left)) (turn-is turn ∙ c .enum-told .given .1)
 
 read-turned-requires : tie.Need-read-turned-requires
@@ -145,8 +145,7 @@ read-turned-requires c κs =
     let agreed = divided .before .before .before .before in
     let start = agreed .before .before .before .before .before .before in
     let a = start .args in
-    let F = numbersOf (a .format) in
-    let below = turnOf-at F (told .t .given .0 .0) (remainder (fOf F) (take (F .n) (a .window .now))) (turn-is turn ∙ told .t .given .1) in
+    let below = found-leaves (numbersOf (a .format)) (a .window .now) (told .t .given .0 .0) (turn-is turn ∙ told .t .given .1) in
     (start .pre .0, (omega (arith, start .pre .1), (omega (arith, below .0), room (agreed .before .before))))
 
 same-length : tie.Need-same-length
@@ -161,7 +160,7 @@ returns-5 c =
     let agreed = divided .before .before .before .before in
     let start = agreed .before .before .before .before .before .before in
     let a = start .args in
-    turn-found (a .format) (a .window .now) (a .output .now) (bits start) (room (agreed .before .before)) (agree agreed)
+    turn-found (a .format) (a .window .now) (a .output .now) (start .pre .1) (bits start) (room (agreed .before .before)) (agree agreed)
     (tested (divided .before) ∙ not-false _ (divided .if3 .left)) (told .t .given .0 .0) (turn-is turn ∙ told .t .given .1)
     ∙ answer .read-turned .ensures
 

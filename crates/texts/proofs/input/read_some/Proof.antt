@@ -1,7 +1,7 @@
 -- `texts::input::read_some` meets its contract. Assumes nothing.
 use mathlib.Core.Path.{sym, ap, _∙_}
 use borrow.Author.Needs.{needs}
-use Rattle.formats.specs.Outcome.{outcome}
+use Rattle.refusals.specs.Outcome.{outcome}
 use Rattle.texts.specs.declared.reading.Progress.{Progress}
 use Rattle.texts.proofs.SomeText.{some-none, some-failed}
 use Rattle.texts.proofs.FirstFault.{fault-in-part}

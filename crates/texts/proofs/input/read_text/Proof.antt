@@ -6,7 +6,7 @@ use Prim.Native.Nat.{ℕ}
 use native.Mathlib.Omega.{arith}
 use borrow.Author.Needs.{needs}
 use lib.ListN.{length}
-use Rattle.formats.specs.Outcome.{outcome}
+use Rattle.refusals.specs.Outcome.{outcome}
 use Rattle.texts.specs.declared.input.OneRead.{OneRead}
 use Rattle.texts.specs.declared.input.OneRead.the-variants.{More, End}
 use Rattle.texts.specs.declared.input.OneRead.the-variants.{Bad as Bad-read}

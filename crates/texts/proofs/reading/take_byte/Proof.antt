@@ -8,7 +8,7 @@ use borrow.Author.Needs.{needs}
 use borrow.Author.Tests.{lt-ltb, le-ltb}
 use lib.ListN.{length, take, drop, set, length-append}
 use lib.Seq.{length-take-le, set-split, append-snoc}
-use Rattle.formats.specs.Outcome.{Outcome, outcome}
+use Rattle.refusals.specs.Outcome.{Outcome, outcome}
 use Rattle.texts.specs.declared.reading.Progress.{Progress}
 use Rattle.texts.specs.declared.reading.Progress.the-variants.{Count, Bad}
 use Rattle.texts.specs.declared.reading.Character.{Character}

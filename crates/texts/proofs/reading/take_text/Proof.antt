@@ -7,7 +7,7 @@ use native.Mathlib.Omega.{arith}
 use borrow.Author.Needs.{needs}
 use lib.ListN.{length, take, drop, getD, take-append-drop}
 use lib.Seq.{take-suc, take-all}
-use Rattle.formats.specs.Outcome.{Outcome, outcome}
+use Rattle.refusals.specs.Outcome.{Outcome, outcome}
 use Rattle.texts.specs.declared.reading.Progress.{Progress}
 use Rattle.texts.specs.declared.reading.Progress.the-variants.{Count, Bad}
 use Rattle.texts.specs.Reading.{Taken, held, taken, kept, takenInto}

@@ -1,14 +1,14 @@
--- A window that is cut from a well-formed telegram going round, upright or flipped, is accepted, and gives what that telegram carries.
+-- A window that is cut from a well-formed telegram going round, upright or flipped, is accepted, and tells what that telegram carries.
 -- Assumes nothing.
-use mathlib.Core.Path.{_≡_, refl, sym, ap, ap₂, _∙_}
+use mathlib.Core.Path.{_≡_, refl, sym, ap, _∙_}
 use mathlib.Core.Bool.{Bool, true, false}
 use mathlib.Core.List.{List}
-use Prim.Native.Nat.{ℕ, _+_, _-_, _≤_, _<_}
+use Prim.Native.Nat.{ℕ, _+_, _-_, _<_}
 use native.Mathlib.Omega.{arith}
 use lib.Dec.{T, eqb}
 use lib.ListN.{length, getD, take, drop}
 use lib.Seq.{getD-drop, getD-take}
-use Rattle.bits.specs.Bits.{allBits, around}
+use Rattle.bits.specs.Bits.{allBits, same, around}
 use Rattle.bits.proofs.Equal.{equal-same}
 use Rattle.bits.proofs.Flipped.{getD-flip}
 use Rattle.bits.proofs.Ring.{length-around, allBits-around}
@@ -25,11 +25,12 @@ use Rattle.telegrams.specs.Telegram.{control}
 use Rattle.telegrams.specs.Fields.{controlOf, scramblingOf, allWords, userBitsOf, wellFormed}
 use Rattle.telegrams.proofs.Checked.{checked-remainder}
 use Rattle.telegrams.proofs.WellFormed.{parts}
-use Rattle.reader.specs.Windows.{oriented, cut}
-use Rattle.reader.specs.Reads.{endsAgree, isFlipped, turnedBack, telegramIn, readingOf, readTelegram, readOf}
+use Rattle.reader.specs.declared.Reading.{Reading}
+use Rattle.reader.specs.Windows.{oriented}
+use Rattle.reader.specs.Reads.{endsAgree, turnFound, isTurn, turnIn, isFlipped, turnedBack, telegramIn, readingOf, readingIn, userBitsIn, readsAs}
+use Rattle.reader.specs.CutFrom.{CutFrom}
 use Rattle.reader.proofs.Windows.{length-oriented, bits-oriented, oriented-twice, cut-oriented, ring-front, ring-ends}
-use Rattle.reader.proofs.Steps.{length-fits, fits-window, turn-found, accepted}
-use Rattle.demands.specs.Answers.{gaveBlock}
+use Rattle.reader.proofs.Accepted.{reads-passed}
 
 -- ---- the flip
 
@@ -58,7 +59,7 @@ control-first F b e =
     ∙ ap (λ (l : List ℕ). getD l 0 0) e
 
 -- tells whether it is flipped
-pub flip-told : (F : Numbers) → Sizes F → (flipped : Bool) (b : List ℕ) → length b ≡ F .n → controlOf F b ≡ control
+flip-told : (F : Numbers) → Sizes F → (flipped : Bool) (b : List ℕ) → length b ≡ F .n → controlOf F b ≡ control
     → isFlipped F (oriented flipped b) ≡ flipped
 unfolding isFlipped
 flip-told F S true b size e =
@@ -66,9 +67,8 @@ flip-told F S true b size e =
     ap (λ (x : ℕ). eqb x 1) (getD-flip b (F .n - 110) inside ∙ ap (λ (x : ℕ). 1 - x) (control-first F b e))
 flip-told F S false b size e = ap (λ (x : ℕ). eqb x 1) (control-first F b e)
 
--- ---- cut means accepted
+-- ---- the window cut at turn t, of a ring x of n bits with the remainder g by f*g
 
--- of a ring x of n bits with the remainder g by f*g, the window cut at turn t
 module _ (format : Format) (x : List ℕ) (t : ℕ) (bits : T (allBits x)) (size : length x ≡ numbersOf format .n) (below : t < numbersOf format .n)
     (code : remainder (fgOf (numbersOf format)) x ≡ gPadded (numbersOf format)) where
   -- its first n bits
@@ -93,7 +93,8 @@ module _ (format : Format) (x : List ℕ) (t : ℕ) (bits : T (allBits x)) (size
       (ap (remainder (gOf F)) ring-turned ∙ turned-reads F (factsOf format) t x bits below size code .0)
 
   -- and their remainder by f is that of the turn t
-  ring-turn : turnOf (numbersOf format) (remainder (fOf (numbersOf format)) (take (numbersOf format .n) (around (windowBits (numbersOf format)) t x))) ≡ At t
+  ring-turn : turnFound (numbersOf format) (around (windowBits (numbersOf format)) t x) ≡ At t
+  unfolding turnFound
   ring-turn =
       let F = numbersOf format in
       ap (λ (v : List ℕ). turnOf F (remainder (fOf F) v)) ring-turned
@@ -106,29 +107,64 @@ module _ (format : Format) (x : List ℕ) (t : ℕ) (bits : T (allBits x)) (size
       let round : numbersOf format .n - t + t ≡ length x = omega arith in
       ap (turned (numbersOf format .n - t)) ring-turned ∙ turned-back (numbersOf format .n - t) t x round
 
--- a window cut from a well-formed telegram b is accepted, and gives what b carries
-module _ (format : Format) (b out : List ℕ) (t : ℕ) (flipped : Bool) (formed : T (wellFormed (numbersOf format) b)) (below : t < numbersOf format .n)
-    (room : numbersOf format .m ≤ length out) where
-  pub cut-accepted : readOf (cut (windowBits (numbersOf format)) t flipped b) out
-      ≡ gaveBlock format (scramblingOf (numbersOf format) b) t flipped (userBitsOf (numbersOf format) b) out
-  unfolding telegramIn readingOf
-  cut-accepted =
+-- ---- the window cut from a telegram
+
+-- the window w is accepted as the format's, and tells B, turn and way up, and the user bits u
+pub record Tells (format : Format) (w : List ℕ) (B t : ℕ) (flipped : Bool) (u : List ℕ) : Type 0 where
+  pub accepted : T (readsAs format w)
+  pub reading : readingIn format w ≡ record { format = format; scrambling = B; turn = t; flipped = flipped }
+  pub userBits : userBitsIn format w ≡ u
+
+module _ (format : Format) (b : List ℕ) (t : ℕ) (flipped : Bool) (formed : T (wellFormed (numbersOf format) b)) (below : t < numbersOf format .n) where
+  ring-tells : Tells format (around (windowBits (numbersOf format)) t (oriented flipped b)) (scramblingOf (numbersOf format) b) t flipped
+      (userBitsOf (numbersOf format) b)
+  unfolding readingIn readingOf userBitsIn turnIn telegramIn
+  ring-tells =
       let F = numbersOf format in
-      let S = sizesOf format in
       let h = parts F b formed in
-      let k = windowBits F in
       let x = oriented flipped b in
-      let w = around k t x in
+      let w = around (windowBits F) t x in
       let size : length x ≡ F .n = length-oriented flipped b ∙ h .size in
       let bits = bits-oriented flipped b (h .bits) in
-      let some : 0 < length b = omega (arith, h .size, S .n-is) in
       let code = formed-code format flipped b formed in
+      let turn = ring-turn format x t bits size below code in
       let back = ring-back format x t bits size below code in
-      let told : isFlipped F (turnedBack F t w) ≡ flipped = ap (isFlipped F) back ∙ flip-told F S flipped b (h .size) (h .control-is) in
-      let telegram : telegramIn F t w ≡ b = ap₂ oriented told back ∙ oriented-twice flipped b (h .bits) in
-      ap (λ (l : List ℕ). readOf l out) (cut-oriented k t flipped b some)
-      ∙ length-fits format w out (fits-window format (length w) (length-around k t x))
-      ∙ turn-found format w out (is-true (allBits w) (allBits-around k t x bits)) room
-      (ring-agrees format x t bits size below code) (ring-divisible format x t bits size below code) t (ring-turn format x t bits size below code)
-      ∙ ap₂ (λ (f : Bool) (c : List ℕ). readTelegram format t f c out) told telegram
-      ∙ accepted format t flipped b out (equal-same (controlOf F b) control (h .control-is)) (is-true (allWords (F .words) b) (h .all-words))
+      let told : isFlipped F x ≡ flipped = flip-told F (sizesOf format) flipped b (h .size) (h .control-is) in
+      let upright : oriented flipped x ≡ b = oriented-twice flipped b (h .bits) in
+      let telegram : telegramIn F (turnIn F w) w ≡ b = rw (turn, back, told) upright in
+      record {
+        accepted =
+            reads-passed format w .1
+            (record {
+              size = length-around (windowBits F) t x;
+              bits = is-true (allBits w) (allBits-around (windowBits F) t x bits);
+              ends = ring-agrees format x t bits size below code;
+              divided = ring-divisible format x t bits size below code;
+              turn = ap isTurn turn;
+              controlled = ap (λ (l : List ℕ). same (controlOf F l) control) telegram ∙ equal-same (controlOf F b) control (h .control-is);
+              worded = ap (allWords (F .words)) telegram ∙ is-true (allWords (F .words) b) (h .all-words);
+            });
+        reading = rw (turn, back, told, upright);
+        userBits = ap (userBitsOf F) telegram;
+      }
+
+pub cut-tells : (format : Format) (w : List ℕ) (B t : ℕ) (flipped : Bool) (u : List ℕ) → CutFrom format w B t flipped u → Tells format w B t flipped u
+cut-tells format w B t flipped u c =
+    let F = numbersOf format in
+    let b = c .telegram in
+    let some : 0 < length b = omega (arith, parts F b (c .well-formed) .size, sizesOf format .n-is) in
+    rw (c .window ∙ cut-oriented (windowBits F) t flipped b some, ← c .scrambling, ← c .userBits)
+    (ring-tells format b t flipped (c .well-formed) (c .turn))
+
+-- so one window is cut from telegrams with one B and one block only, at one turn and one way up
+pub cut-once : (format : Format) (w : List ℕ) (B C s t : ℕ) (f g : Bool) (u v : List ℕ) → CutFrom format w B s f u → CutFrom format w C t g v
+    → (u ≡ v) × (B ≡ C) × (s ≡ t) × (f ≡ g)
+cut-once format w B C s t f g u v c d =
+    let one = cut-tells format w B s f u c in
+    let other = cut-tells format w C t g v d in
+    let readings = sym (one .reading) ∙ other .reading in (
+      sym (one .userBits) ∙ other .userBits,
+      ap (λ (r : Reading). r .scrambling) readings,
+      ap (λ (r : Reading). r .turn) readings,
+      ap (λ (r : Reading). r .flipped) readings,
+    )

@@ -1,0 +1,322 @@
+-- Searching a capture finds the first place at which read accepts, long before short at one place (document 01, "Search, reading and
+-- place"), and refuses as its table says ("When the bench says no"). Assumes nothing.
+use mathlib.Core.Path.{_≡_, refl, sym, ap, subst, subst⁻¹, _∙_}
+use mathlib.Core.Bool.{Bool, true, false, true≢false, not}
+use mathlib.Core.List.{List, [], _∷_, _++_}
+use mathlib.Core.Logic.{_↔_, inl, inr}
+use Prim.Native.Nat.{ℕ, _+_, _≤_, _<_}
+use native.Mathlib.Omega.{arith}
+use borrow.Author.Tests.{not-false, le-leb, leb-true}
+use lib.Dec.{T, leb, leb→le}
+use lib.ListN.{length, take, drop, replicate, length-replicate}
+use Rattle.bits.specs.Bits.{allBits}
+use Rattle.bits.specs.Search.{First, found, none, firstOf, isFound, whichFound}
+use Rattle.bits.proofs.First.{first-found, first-missing, missing-first}
+use Rattle.bits.proofs.Tests.{clash, holds, fails, is-true, is-false}
+use Rattle.formats.specs.declared.format.Format.{Format}
+use Rattle.formats.specs.declared.format.Format.the-variants.{Long, Short}
+use Rattle.formats.specs.Numbers.{long, numbersOf, windowBits}
+use Rattle.formats.proofs.Fits.{one-format, windows-apart}
+use Rattle.refusals.specs.declared.Refusal.{Refusal}
+use Rattle.refusals.specs.declared.Refusal.the-variants.{NoPlace}
+use Rattle.refusals.specs.Refused.{refusalNumber}
+use Rattle.refusals.specs.Table.{Verdict, refused, accepted, verdict, answerBy, FirstApplies, RefusesBy, risesAbove, _when_}
+use Rattle.refusals.specs.Outcome.{Outcome, outcome}
+use Rattle.refusals.proofs.Table.{Decides, NoRow, accepted-no-row, passed, failed, all-passed, given, refuses-by}
+use Rattle.reader.specs.declared.Reading.{Reading}
+use Rattle.reader.specs.declared.ReadAnswer.{ReadAnswer}
+use Rattle.reader.specs.declared.ReadAnswer.the-variants.{Read}
+use Rattle.reader.specs.Reads.{readingIn, userBitsIn, readOf, readsAs}
+use Rattle.reader.proofs.Laws.{reading-format, reads-as, read-accepted}
+use Rattle.captures.specs.declared.Capture.{Capture}
+use Rattle.captures.specs.declared.Capture.the-variants.{Found, Refused}
+use Rattle.captures.specs.Captures.{captureLimit, windowAt, acceptsAs, acceptsAt, firstPlace, formatAt, foundAt, foundOut, searchTable, searchOf, stretchAs, stretchOf, searchReadTable, searchReadOf}
+use Rattle.captures.specs.Attempts.{outFound}
+use Rattle.captures.specs.FirstPlace.{ReadsAt, NotAt, FirstPlace, NoneAccepts, Searched, Searches, SearchReads}
+use Rattle.captures.proofs.Places.{window-least, block-most, window-there, window-length, accepts-fits, long-there, short-there, neither-there, found-there, none-there, Passed}
+use Rattle.captures.proofs.Found.{found-as, out-as}
+use Rattle.captures.proofs.Steps.{search-decided, by-place, same-answer}
+
+-- ---- refusals
+
+abbrev said : Capture → Verdict Refusal
+said (Found p reading) = accepted
+said (Refused r) = refused r
+
+refused-only : (a : Capture) (r : Refusal) → said a ≡ refused r → a ≡ Refused r
+refused-only (Found p reading) r e = clash cc
+refused-only (Refused q) r e = cc
+
+module _ (s : List ℕ) where
+  search-said : said (searchOf s) ≡ verdict (searchTable s)
+  unfolding searchOf foundAt
+  search-said = go (verdict (searchTable s))
+    where
+      go : (v : Verdict Refusal) → said (answerBy Refused (foundAt s (whichFound (firstPlace s))) v) ≡ v
+      go (refused r) = refl
+      go accepted = refl
+
+  search-rises : T (risesAbove refusalNumber 0 (searchTable s))
+  unfolding risesAbove searchTable
+  search-rises = tt
+
+  search-refuses : RefusesBy refusalNumber Refused (searchTable s) (searchOf s)
+  search-refuses = refuses-by Refused said (λ r. refl) refused-only refusalNumber (searchTable s) search-rises (searchOf s) search-said
+
+-- a test that does not refuse holds
+unrefused : (t : Bool) → (T (not t) → ⊥) → T t
+unrefused true h = tt
+unrefused false h = h tt
+
+-- ---- the places at which read accepts
+
+module _ (format : Format) (s : List ℕ) (p : ℕ) where
+  accepts-reads : T (acceptsAs format s p) → ReadsAt format s p (readingIn format (windowAt format s p))
+  unfolding acceptsAs
+  accepts-reads h =
+      record {
+        fits = accepts-fits format s p h;
+        reads = λ out room. ap (λ (x : Outcome ReadAnswer). x .answer) (reads-as format (windowAt format s p) out h room);
+      }
+
+  -- what reads there is accepted, and this is its reading
+  reads-accepts : (reading : Reading) → ReadsAt format s p reading → T (acceptsAs format s p) × (reading ≡ readingIn format (windowAt format s p))
+  unfolding acceptsAs
+  reads-accepts reading h =
+      let w = windowAt format s p in
+      let zeros : List ℕ = replicate (numbersOf format .m) 0 in
+      let room : numbersOf format .m ≤ length zeros = omega (arith, length-replicate {A = ℕ} (numbersOf format .m) 0) in
+      let known = read-accepted w zeros reading (h .reads zeros room) in
+      let same : reading .format ≡ format =
+      one-format windowBits windows-apart (length w) (reading .format) format (known .size) (window-length format s p (h .fits)) in
+      subst (λ (f : Format). T (readsAs f w) × (reading ≡ readingIn f w)) same (known .accepted, known .reads)
+
+  not-accepted : acceptsAs format s p ≡ false → NotAt format s p
+  not-accepted e reading h = fails (acceptsAs format s p) e (reads-accepts reading h .0)
+
+  accepted-not : NotAt format s p → acceptsAs format s p ≡ false
+  accepted-not h = is-false (acceptsAs format s p) (λ t. h (readingIn format (windowAt format s p)) (accepts-reads t))
+
+module _ (s : List ℕ) (p : ℕ) where
+  -- read accepts there as the format's
+  format-accepts : acceptsAt s p ≡ true → T (acceptsAs (formatAt s p) s p)
+  unfolding acceptsAt formatAt
+  format-accepts e = go (acceptsAs Long s p) refl (acceptsAs Short s p) refl
+    where
+      go : (l : Bool) → acceptsAs Long s p ≡ l → (t : Bool) → acceptsAs Short s p ≡ t → T (acceptsAs (formatAt s p) s p)
+      go true f t g = subst⁻¹ (λ (x : Format). T (acceptsAs x s p)) (long-there s p f .1) (holds (acceptsAs Long s p) f)
+      go false f true g = subst⁻¹ (λ (x : Format). T (acceptsAs x s p)) (short-there s p f g .1) (holds (acceptsAs Short s p) g)
+      go false f false g = absurd (fails (acceptsAt s p) (neither-there s p f g) (holds (acceptsAt s p) e))
+
+  -- neither format is accepted where none is
+  none-accepts : acceptsAt s p ≡ false → (format : Format) → acceptsAs format s p ≡ false
+  unfolding acceptsAt
+  none-accepts e format = is-false (acceptsAs format s p) (λ t. go format t (acceptsAs Long s p) refl (acceptsAs Short s p) refl)
+    where
+      go : (x : Format) → T (acceptsAs x s p) → (l : Bool) → acceptsAs Long s p ≡ l → (t : Bool) → acceptsAs Short s p ≡ t → ⊥
+      go x h true f t g = fails (acceptsAt s p) e (holds (acceptsAt s p) (long-there s p f .0))
+      go x h false f true g = fails (acceptsAt s p) e (holds (acceptsAt s p) (short-there s p f g .0))
+      go Long h false f false g = fails (acceptsAs Long s p) f h
+      go Short h false f false g = fails (acceptsAs Short s p) g h
+
+-- ---- what an answer tells
+
+-- the first place, and the reading there
+pub record FoundAt (s : List ℕ) (p : ℕ) (reading : Reading) : Type 0 where
+  pub within : length s ≤ captureLimit
+  pub bits : T (allBits s)
+  pub first : firstPlace s ≡ found p
+  pub accepts : T (acceptsAs (formatAt s p) s p)
+  pub reads : reading ≡ readingIn (formatAt s p) (windowAt (formatAt s p) s p)
+
+found-format : (s : List ℕ) (p : ℕ) (reading : Reading) → FoundAt s p reading → reading .format ≡ formatAt s p
+found-format s p reading h =
+    ap (λ (r : Reading). r .format) (h .reads) ∙ reading-format (formatAt s p) (windowAt (formatAt s p) s p)
+
+module _ (s : List ℕ) where
+  no-row-found : (f : First) → firstPlace s ≡ f → NoRow (searchTable s) → (p : ℕ) (reading : Reading)
+      → foundAt s (whichFound (firstPlace s)) ≡ Found p reading → FoundAt s p reading
+  unfolding NoRow searchTable firstPlace
+  no-row-found (found q) f (within, (bits, rest)) p reading e =
+      let here : foundAt s q ≡ Found p reading = ap (λ (x : First). foundAt s (whichFound x)) (sym f) ∙ e in
+      let answer = sym (found-as s q (formatAt s q) refl) ∙ here in
+      let place : q ≡ p = cc in
+      let is : readingIn (formatAt s q) (windowAt (formatAt s q) s q) ≡ reading = cc in
+      subst (λ (k : ℕ). FoundAt s k reading) place
+      (record {
+        within = leb-true (length s) captureLimit (not-false (leb (length s) captureLimit) within);
+        bits = holds (allBits s) (not-false (allBits s) bits);
+        first = f;
+        accepts = format-accepts s q (first-found (acceptsAt s) 0 (length s) q f .passed);
+        reads = sym is;
+      })
+  no-row-found none f (within, (bits, (some, rest))) p reading e =
+      absurd (true≢false (sym (ap (λ (x : First). not (isFound x)) f) ∙ some))
+
+  pub found-tells : (p : ℕ) (reading : Reading) → searchOf s ≡ Found p reading → FoundAt s p reading
+  unfolding searchOf
+  found-tells p reading e = go (verdict (searchTable s)) refl e
+    where
+      go : (v : Verdict Refusal) → verdict (searchTable s) ≡ v → answerBy Refused (foundAt s (whichFound (firstPlace s))) v ≡ Found p reading
+          → FoundAt s p reading
+      go (refused r) f e = clash cc
+      go accepted f e = no-row-found (firstPlace s) refl (accepted-no-row (searchTable s) f) p reading e
+
+  -- the whole window is in the capture
+  pub found-fits : (p : ℕ) (reading : Reading) → searchOf s ≡ Found p reading → p + windowBits (numbersOf (reading .format)) ≤ length s
+  found-fits p reading e =
+      let h = found-tells p reading e in
+      subst⁻¹ (λ (f : Format). p + windowBits (numbersOf f) ≤ length s) (found-format s p reading h) (accepts-fits (formatAt s p) s p (h .accepts))
+
+  -- ---- the first place by the tests is the first place, and the other way round
+
+  -- a short reading is of a place at which no long window is accepted
+  long-not-short : (p : ℕ) (reading : Reading) → FoundAt s p reading → reading .format ≡ Short → T (acceptsAs Long s p) → ⊥
+  long-not-short p reading h e t =
+      let other = long-there s p (is-true (acceptsAs Long s p) t) .1 in
+      let clashes : Short ≡ Long = sym e ∙ found-format s p reading h ∙ other in
+      clash cc
+
+  first-place : (p : ℕ) (reading : Reading) → FoundAt s p reading → FirstPlace s p reading
+  unfolding firstPlace
+  first-place p reading h =
+      let same = found-format s p reading h in
+      let is = first-found (acceptsAt s) 0 (length s) p (h .first) in
+      record {
+        here = subst⁻¹ (λ (f : Format). ReadsAt f s p reading) same
+            (subst⁻¹ (ReadsAt (formatAt s p) s p) (h .reads) (accepts-reads (formatAt s p) s p (h .accepts)));
+        earlier = λ j below format. not-accepted format s j (none-accepts s j (is .earlier j (omega arith) below) format);
+        longFirst = λ e. not-accepted Long s p (is-false (acceptsAs Long s p) (λ t. long-not-short p reading h e t));
+      }
+
+  -- past the tests of length and bytes
+  searched-passed : {v : Verdict Refusal} → Searched s → Decides ((NoPlace when not (isFound (firstPlace s))) ∷ []) v → Decides (searchTable s) v
+  unfolding searchTable
+  searched-passed (within, bits) d = passed (le-leb (length s) captureLimit within) (passed (is-true (allBits s) bits) d)
+
+  place-first : (p : ℕ) (reading : Reading) → Searched s → FirstPlace s p reading → searchOf s ≡ Found p reading
+  place-first p reading searched h =
+      let (accepts, reads) = reads-accepts (reading .format) s p reading (h .here) in
+      let (at, is) = as-format (reading .format) refl (is-true (acceptsAs (reading .format) s p) accepts) in
+      let earlier : Passed s p =
+      λ (j : ℕ) (below : j < p). neither-there s j (accepted-not Long s j (h .earlier j below Long)) (accepted-not Short s j (h .earlier j below Short)) in
+      let first = found-there s p earlier at (omega (arith, h .here .fits, window-least (reading .format))) in
+      search-decided s accepted
+      (searched-passed searched (passed (ap isFound first) all-passed))
+      ∙ ap (λ (x : First). foundAt s (whichFound x)) first
+      ∙ found-as s p (reading .format) is
+      ∙ ap (Found p) (sym reads)
+    where
+      as-format : (f : Format) → reading .format ≡ f → acceptsAs f s p ≡ true → (acceptsAt s p ≡ true) × (formatAt s p ≡ f)
+      as-format Long e a = long-there s p a
+      as-format Short e a = short-there s p (accepted-not Long s p (h .longFirst e)) a
+
+  -- ---- the stretch
+
+  pub stretch-found : (p : ℕ) (reading : Reading) → searchOf s ≡ Found p reading → stretchOf s ≡ windowAt (reading .format) s p
+  unfolding stretchOf
+  stretch-found p reading e = ap (stretchAs s) e
+
+  pub stretch-none : (refusal : Refusal) → searchOf s ≡ Refused refusal → stretchOf s ≡ []
+  unfolding stretchOf
+  stretch-none refusal e = ap (stretchAs s) e
+
+  -- ---- no place
+
+  nothing-found : (f : First) → firstPlace s ≡ f → T (not (isFound f)) → firstPlace s ≡ none
+  nothing-found (found p) e t = absurd t
+  nothing-found none e t = e
+
+  missing-none : T (not (isFound (firstPlace s))) → NoneAccepts s
+  unfolding firstPlace
+  missing-none h p format reading reads =
+      let below : p < length s = omega (arith, reads .fits, window-least format) in
+      not-accepted format s p (none-accepts s p (first-missing (acceptsAt s) 0 (length s) (nothing-found (firstPlace s) refl h) p (omega arith) (omega arith)) format) reading reads
+
+  row-tells : FirstApplies (searchTable s) NoPlace → Searched s × NoneAccepts s
+  unfolding FirstApplies searchTable
+  row-tells (inl (is, h)) = clash cc
+  row-tells (inr (within, inl (is, h))) = clash cc
+  row-tells (inr (within, inr (bits, inl (is, h)))) =
+      ((leb→le (length s) captureLimit (unrefused (leb (length s) captureLimit) within), unrefused (allBits s) bits), missing-none h)
+  row-tells (inr (within, inr (bits, inr (place, h)))) = absurd h
+
+  none-tells : searchOf s ≡ Refused NoPlace → Searched s × NoneAccepts s
+  none-tells e = row-tells (given (searchTable s) NoPlace .0 (sym (search-said s) ∙ ap said e))
+
+  tells-none : Searched s → NoneAccepts s → searchOf s ≡ Refused NoPlace
+  unfolding firstPlace
+  tells-none searched h =
+      let missing = missing-first (acceptsAt s) 0 (length s)
+      (λ j from below. neither-there s j (accepted-not Long s j (h j Long)) (accepted-not Short s j (h j Short))) in
+      search-decided s (refused NoPlace) (searched-passed searched (failed (ap isFound missing)))
+
+  pub searches : Searches s
+  searches =
+      record {
+        refuses = search-refuses s;
+        finds = λ p reading. (
+          λ e. let h = found-tells p reading e in ((h .within, h .bits), first-place p reading h),
+          λ h. place-first p reading (h .0) (h .1),
+        );
+        noPlace = (none-tells, λ h. tells-none (h .0) (h .1));
+        stretch = λ p reading e. stretch-found p reading e ∙ window-there (reading .format) s p (found-fits p reading e);
+        stretchLength = λ p reading e. ap length (stretch-found p reading e) ∙ window-length (reading .format) s p (found-fits p reading e);
+        noStretch = stretch-none;
+      }
+
+-- ---- the search that writes
+
+module _ (s out : List ℕ) where
+  abbrev by : Verdict Refusal → Outcome Capture
+  by v = answerBy (λ (r : Refusal). outcome (Refused r) out) (foundOut s (whichFound (firstPlace s)) out) v
+
+  read-said : said (searchReadOf s out .answer) ≡ verdict (searchReadTable (length out) s)
+  unfolding searchReadOf foundOut foundAt
+  read-said = go (verdict (searchReadTable (length out) s))
+    where
+      go : (v : Verdict Refusal) → said (by v .answer) ≡ v
+      go (refused r) = refl
+      go accepted = refl
+
+  read-rises : T (risesAbove refusalNumber 0 (searchReadTable (length out) s))
+  unfolding risesAbove searchReadTable
+  read-rises = tt
+
+  read-refuses : RefusesBy refusalNumber Refused (searchReadTable (length out) s) (searchReadOf s out .answer)
+  read-refuses =
+      refuses-by Refused said (λ r. refl) refused-only refusalNumber (searchReadTable (length out) s) read-rises (searchReadOf s out .answer) read-said
+
+  read-keeps : (r : Refusal) → searchReadOf s out .answer ≡ Refused r → searchReadOf s out .output ≡ out
+  unfolding searchReadOf foundOut foundAt
+  read-keeps r e = go (verdict (searchReadTable (length out) s)) e
+    where
+      go : (v : Verdict Refusal) → by v .answer ≡ Refused r → by v .output ≡ out
+      go (refused q) e = refl
+      go accepted e = clash cc
+
+  with-room : NoRow (searchReadTable (length out) s) → long .m ≤ length out
+  unfolding NoRow searchReadTable
+  with-room (within, (bits, (room, rest))) = leb-true (long .m) (length out) (not-false (leb (long .m) (length out)) room)
+
+  stretch-read : (p : ℕ) (format : Format) → T (acceptsAs format s p) → numbersOf format .m ≤ length out
+      → readOf (windowAt format s p) out
+      ≡ outcome (Read (readingIn format (windowAt format s p))) (userBitsIn format (windowAt format s p) ++ drop (numbersOf format .m) out)
+  unfolding acceptsAs
+  stretch-read p format h room = reads-as format (windowAt format s p) out h room
+
+  read-writes : (p : ℕ) (reading : Reading) → searchReadOf s out .answer ≡ Found p reading
+      → searchReadOf s out .output ≡ readOf (stretchOf s) out .output
+  read-writes p reading e =
+      let room = with-room (accepted-no-row (searchReadTable (length out) s) (sym read-said ∙ ap said e)) in
+      let found-s : searchOf s ≡ Found p reading = sym (same-answer s out room) ∙ e in
+      let h = found-tells s p reading found-s in
+      let format = formatAt s p in
+      let stretch = stretch-found s p reading found-s ∙ ap (λ (f : Format). windowAt f s p) (found-format s p reading h) in
+      let there = by-place s out (h .within) (is-true (allBits s) (h .bits)) room ∙ ap (outFound s out) (h .first) ∙ out-as s p out format refl in
+      ap (λ (x : Outcome Capture). x .output) there
+      ∙ sym (ap (λ (w : List ℕ). readOf w out .output) stretch
+      ∙ ap (λ (x : Outcome ReadAnswer). x .output) (stretch-read p format (h .accepts) (omega (arith, block-most format))))
+
+  pub search-reads : SearchReads s out
+  search-reads = record { refuses = read-refuses; answers = same-answer s out; writes = read-writes; keeps = read-keeps }

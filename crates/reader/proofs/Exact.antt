@@ -1,0 +1,117 @@
+-- Reading means what it is to mean: it refuses by its table, accepts exactly the windows that are cut from a well-formed telegram, and gives
+-- what that telegram carries. Assumes nothing.
+use mathlib.Core.Path.{_≡_, refl, sym, ap, ap₂, _∙_}
+use mathlib.Core.Bool.{Bool}
+use mathlib.Core.List.{List, _++_}
+use Prim.Native.Nat.{ℕ, _≤_}
+use native.Mathlib.Omega.{arith}
+use lib.ListN.{length, take, drop, length-append}
+use lib.Seq.{take-at}
+use Rattle.bits.proofs.Tests.{clash}
+use Rattle.formats.specs.declared.format.Format.{Format}
+use Rattle.formats.specs.Numbers.{numbersOf, windowBits}
+use Rattle.formats.proofs.Sizes.{sizesOf}
+use Rattle.refusals.specs.declared.Refusal.{Refusal}
+use Rattle.refusals.specs.Refused.{refusalNumber}
+use Rattle.refusals.specs.Table.{Verdict, refused, accepted, verdict}
+use Rattle.refusals.specs.Outcome.{Outcome, outcome, FrontWritten}
+use Rattle.refusals.proofs.Table.{refuses-by}
+use Rattle.refusals.proofs.Fronts.{front-written}
+use Rattle.telegrams.proofs.Made.{length-userBits}
+use Rattle.reader.specs.declared.Reading.{Reading}
+use Rattle.reader.specs.declared.ReadAnswer.{ReadAnswer}
+use Rattle.reader.specs.declared.ReadAnswer.the-variants.{Read, Refused}
+use Rattle.reader.specs.Reads.{formatOf, turnIn, telegramIn, readTable, userBitsIn, readAs, readOf}
+use Rattle.reader.specs.CutFrom.{CutFrom}
+use Rattle.reader.specs.ReadsExactly.{gaveBlock, ReadsExactly}
+use Rattle.reader.proofs.Steps.{decided, any-window, read-as, rises}
+use Rattle.reader.proofs.Laws.{reads-as, answered-read, answered-refused, read-accepted}
+use Rattle.reader.proofs.CutReads.{cut-tells}
+use Rattle.reader.proofs.ReadsCut.{reads-cut}
+
+-- ---- refused by the table
+
+-- what an answer says
+abbrev said : ReadAnswer → Verdict Refusal
+said (Refused r) = refused r
+said (Read reading) = accepted
+
+refusal-said : (a : ReadAnswer) (r : Refusal) → said a ≡ refused r → a ≡ Refused r
+refusal-said (Refused q) r e = cc
+refusal-said (Read reading) r e = clash cc
+
+-- is the table's verdict
+verdict-said : (w out : List ℕ) → said (readOf w out .answer) ≡ verdict (readTable (formatOf w) (length out) w)
+verdict-said w out = ap (λ (x : Outcome ReadAnswer). said (x .answer)) (any-window w out) ∙ go (verdict (readTable (formatOf w) (length out) w)) refl
+  where
+    go : (v : Verdict Refusal) → verdict (readTable (formatOf w) (length out) w) ≡ v
+        → said (readAs (formatOf w) w out .answer) ≡ verdict (readTable (formatOf w) (length out) w)
+    go (refused r) e = ap (λ (x : Outcome ReadAnswer). said (x .answer)) (decided (formatOf w) w out (refused r) e) ∙ sym e
+    go accepted e = ap (λ (x : Outcome ReadAnswer). said (x .answer)) (decided (formatOf w) w out accepted e) ∙ sym e
+
+-- ---- accepted where it is cut from a telegram
+
+-- lists that are the same with the same list behind them
+fronts-same : (u v d : List ℕ) → u ++ d ≡ v ++ d → u ≡ v
+fronts-same u v d e =
+    let sizes : length u ≡ length v = omega (arith, length-append u d, length-append v d, ap length e) in
+    sym (take-at u d (length u) refl) ∙ ap (take (length u)) e ∙ take-at v d (length u) (sym sizes)
+
+module _ (format : Format) (w out : List ℕ) where
+  -- cut means accepted
+  pub cut-read : numbersOf format .m ≤ length out → (B t : ℕ) (flipped : Bool) (u : List ℕ) → CutFrom format w B t flipped u
+      → readOf w out ≡ gaveBlock format B t flipped u out
+  cut-read room B t flipped u c =
+      let k = cut-tells format w B t flipped u c in
+      reads-as format w out (k .accepted) room
+      ∙ ap₂ (λ (x : Reading) (l : List ℕ). outcome (Read x) (l ++ drop (numbersOf format .m) out)) (k .reading) (k .userBits)
+
+  module _ (size : length w ≡ windowBits (numbersOf format)) where
+    -- accepted means cut
+    read-cut : (reading : Reading) (o : List ℕ) → readOf w out ≡ outcome (Read reading) o
+        → CutFrom format w (reading .scrambling) (reading .turn) (reading .flipped) (userBitsIn format w)
+        × (o ≡ userBitsIn format w ++ drop (numbersOf format .m) out)
+    read-cut reading o e =
+        let (h, room, reads, writes) = answered-read format w out reading o (sym (read-as format w out size) ∙ e) in
+        (rw reads (reads-cut format w h), writes)
+
+    read-gave : (B t : ℕ) (flipped : Bool) (u : List ℕ) → readOf w out ≡ gaveBlock format B t flipped u out → CutFrom format w B t flipped u
+    read-gave B t flipped u e =
+        let (cut, writes) = read-cut (record { format = format; scrambling = B; turn = t; flipped = flipped }) (gaveBlock format B t flipped u out .output) e in
+        rw (fronts-same u (userBitsIn format w) (drop (numbersOf format .m) out) writes) cut
+
+-- ---- what is written
+
+front-over : (w out : List ℕ) (reading : Reading) → readOf w out .answer ≡ Read reading
+    → FrontWritten (numbersOf (reading .format) .m) out (readOf w out .output)
+unfolding userBitsIn
+front-over w out reading e =
+    let a = read-accepted w out reading e in
+    let F = numbersOf (reading .format) in
+    rw (a .writes)
+    (front-written (F .m) (userBitsIn (reading .format) w) out
+    (length-userBits F (sizesOf (reading .format)) (telegramIn F (turnIn F w) w)) (a .room))
+
+-- ---- all of it
+
+pub reads-exactly : (w out : List ℕ) → ReadsExactly w out
+reads-exactly w out =
+    record {
+      refuses =
+          refuses-by Refused said (λ r. refl) refusal-said refusalNumber (readTable (formatOf w) (length out) w) (rises (formatOf w) (length out) w)
+          (readOf w out .answer) (verdict-said w out);
+      accepts =
+          λ format size room. (
+            λ r. (r .0 .scrambling, r .0 .turn, r .0 .flipped, userBitsIn format w, read-cut format w out size (r .0) (r .1) (r .2) .0),
+            λ c. (
+              record { format = format; scrambling = c .0; turn = c .1; flipped = c .2 },
+              gaveBlock format (c .0) (c .1) (c .2) (c .3) out .output,
+              cut-read format w out room (c .0) (c .1) (c .2) (c .3) (c .4),
+            ),
+          );
+      gives = λ format size room B t flipped u. (read-gave format w out size B t flipped u, cut-read format w out room B t flipped u);
+      keeps =
+          λ r e. answered-refused (formatOf w) w out r (readOf w out .output)
+          (sym (any-window w out) ∙ ap (λ (a : ReadAnswer). outcome a (readOf w out .output)) e) .0;
+      writes = front-over w out;
+    }

@@ -1,0 +1,170 @@
+-- What reading answers, for the crates that call it: none has to open its definition. Assumes nothing.
+use Prim.Native.Nat.{ℕ, _≤_, _<_}
+use mathlib.Core.Path.{_≡_, refl, sym, ap, subst, _∙_}
+use mathlib.Core.Bool.{false}
+use mathlib.Core.List.{List, _++_}
+use mathlib.Core.Logic.{_⊎_, inl, inr}
+use lib.Dec.{T}
+use lib.ListN.{length, drop}
+use Rattle.bits.specs.Bits.{allBits}
+use Rattle.bits.proofs.Tests.{clash, holds, fails, is-false}
+use Rattle.formats.specs.declared.format.Format.{Format}
+use Rattle.formats.specs.Numbers.{numbersOf, windowBits}
+use Rattle.refusals.specs.declared.Refusal.{Refusal}
+use Rattle.refusals.specs.Table.{Verdict, refused, accepted, verdict, answerBy}
+use Rattle.refusals.specs.Outcome.{Outcome, outcome}
+use Rattle.telegrams.proofs.WellFormed.{scrambling-below}
+use Rattle.reader.specs.declared.Reading.{Reading}
+use Rattle.reader.specs.declared.ReadAnswer.{ReadAnswer}
+use Rattle.reader.specs.declared.ReadAnswer.the-variants.{Read, Refused}
+use Rattle.reader.specs.Reads.{formatOf, endsAgree, turnIn, telegramIn, readTable, readingOf, readingIn, userBitsIn, readOut, readAs, readOf, readsAs}
+use Rattle.reader.proofs.Steps.{decided, any-window, read-as}
+use Rattle.reader.proofs.Accepted.{accepted-passed, passed-accepted, with-room, reads-passed}
+use Rattle.reader.proofs.Turns.{turn-leaves}
+use Rattle.reader.proofs.Parts.Found.{bits-found}
+
+-- ---- windows that are accepted as a format's
+
+module _ (format : Format) (w : List ℕ) where
+  pub reads-size : T (readsAs format w) → length w ≡ windowBits (numbersOf format)
+  reads-size h = reads-passed format w .0 h .size
+
+  pub reads-bits : T (readsAs format w) → T (allBits w)
+  reads-bits h = holds (allBits w) (reads-passed format w .0 h .bits)
+
+  -- ends that differ are never accepted
+  pub ends-unread : endsAgree (numbersOf format) w ≡ false → readsAs format w ≡ false
+  ends-unread e =
+      let F = numbersOf format in
+      is-false (readsAs format w) (λ h. fails (endsAgree F w) e (holds (endsAgree F w) (reads-passed format w .0 h .ends)))
+
+  pub reading-format : readingIn format w .format ≡ format
+  unfolding readingIn readingOf
+  reading-format = refl
+
+  -- the numbers of what is read fit their fields
+  pub reads-below : T (readsAs format w) → (readingIn format w .scrambling < 4096) × (readingIn format w .turn < numbersOf format .n)
+  unfolding readingIn readingOf
+  reads-below h =
+      let F = numbersOf format in
+      (scrambling-below F (telegramIn F (turnIn F w) w) (bits-found F (turnIn F w) w (reads-bits h)), turn-leaves F w (reads-passed format w .0 h .turn) .0)
+
+-- ---- what is answered for a window that is to be a format's
+
+-- the parts of an outcome, and of outcomes that are the same
+abbrev answerOf : Outcome ReadAnswer → ReadAnswer
+answerOf x = x .answer
+
+abbrev outputOf : Outcome ReadAnswer → List ℕ
+outputOf x = x .output
+
+parts : {a b : ReadAnswer} {o p : List ℕ} → outcome a o ≡ outcome b p → (a ≡ b) × (o ≡ p)
+parts e = (ap answerOf e, ap outputOf e)
+
+-- a refusal is no reading
+refused-read : {A : Type 0} {r : Refusal} {reading : Reading} {o p : List ℕ} → outcome (Refused r) o ≡ outcome (Read reading) p → A
+refused-read e = let answers = parts e .0 in clash cc
+
+read-one : {x y : Reading} → Read x ≡ Read y → x ≡ y
+read-one e = cc
+
+module _ (format : Format) (w out : List ℕ) where
+  -- it is refused, or accepted with room
+  abbrev Refused⊎Read : Type 0
+  Refused⊎Read =
+      ((r : Refusal) × (readAs format w out ≡ outcome (Refused r) out))
+      ⊎ (T (readsAs format w) × (numbersOf format .m ≤ length out) × (readAs format w out ≡ readOut format w out))
+
+  read-or-refused : Refused⊎Read
+  read-or-refused = go (verdict (readTable format (length out) w)) refl
+    where
+      go : (v : Verdict Refusal) → verdict (readTable format (length out) w) ≡ v → Refused⊎Read
+      go (refused r) e = inl (r, decided format w out (refused r) e)
+      go accepted e =
+          let p = accepted-passed format (length out) w e in
+          inr (reads-passed format w .1 (p .1), p .0, decided format w out accepted e)
+
+  -- accepted where it is read, with room
+  pub reads-out : T (readsAs format w) → numbersOf format .m ≤ length out → readAs format w out ≡ readOut format w out
+  reads-out h room = decided format w out accepted (passed-accepted format (length out) w room (reads-passed format w .0 h))
+
+  pub reads-as : T (readsAs format w) → numbersOf format .m ≤ length out → readOf w out ≡ readOut format w out
+  reads-as h room = read-as format w out (reads-size format w h) ∙ reads-out h room
+
+  -- and refused where it is not
+  pub unread-refused : readsAs format w ≡ false → (r : Refusal) × (readAs format w out ≡ outcome (Refused r) out)
+  unread-refused f = go read-or-refused
+    where
+      go : Refused⊎Read → (r : Refusal) × (readAs format w out ≡ outcome (Refused r) out)
+      go (inl q) = q
+      go (inr (h, room, e)) = absurd (fails (readsAs format w) f h)
+
+  -- what an answer tells
+  pub answered-read : (reading : Reading) (o : List ℕ) → readAs format w out ≡ outcome (Read reading) o
+      → T (readsAs format w) × (numbersOf format .m ≤ length out) × (reading ≡ readingIn format w)
+      × (o ≡ userBitsIn format w ++ drop (numbersOf format .m) out)
+  answered-read reading o e = go read-or-refused
+    where
+      go : Refused⊎Read → T (readsAs format w) × (numbersOf format .m ≤ length out) × (reading ≡ readingIn format w)
+          × (o ≡ userBitsIn format w ++ drop (numbersOf format .m) out)
+      go (inl (r, f)) = refused-read (sym f ∙ e)
+      go (inr (h, room, f)) = let both = parts (sym e ∙ f) in (h, room, read-one (both .0), both .1)
+
+  pub answered-refused : (r : Refusal) (o : List ℕ) → readAs format w out ≡ outcome (Refused r) o
+      → (o ≡ out) × (numbersOf format .m ≤ length out → readsAs format w ≡ false)
+  answered-refused r o e = go read-or-refused
+    where
+      go : Refused⊎Read → (o ≡ out) × (numbersOf format .m ≤ length out → readsAs format w ≡ false)
+      go (inl (q, f)) = (parts (sym e ∙ f) .1, λ room. is-false (readsAs format w) (λ h. refused-read (sym e ∙ reads-out h room)))
+      go (inr (h, room, f)) = refused-read (sym e ∙ f)
+
+-- every output with room gives the same answer
+pub answer-as : (format : Format) (w out out′ : List ℕ) → numbersOf format .m ≤ length out → numbersOf format .m ≤ length out′
+    → readAs format w out .answer ≡ readAs format w out′ .answer
+answer-as format w out out′ room room′ =
+    let v = verdict (readTable format (numbersOf format .m) w) in
+    ap answerOf (decided format w out v (with-room format w (length out) room)) ∙ go v
+    ∙ sym (ap answerOf (decided format w out′ v (with-room format w (length out′) room′)))
+  where
+    go : (v : Verdict Refusal) → answerBy (λ (r : Refusal). outcome (Refused r) out) (readOut format w out) v .answer
+        ≡ answerBy (λ (r : Refusal). outcome (Refused r) out′) (readOut format w out′) v .answer
+    go (refused r) = refl
+    go accepted = refl
+
+-- ---- what is answered for any window
+
+pub answer-room : (w out out′ : List ℕ) → numbersOf (formatOf w) .m ≤ length out → numbersOf (formatOf w) .m ≤ length out′
+    → readOf w out .answer ≡ readOf w out′ .answer
+answer-room w out out′ room room′ =
+    ap answerOf (any-window w out) ∙ answer-as (formatOf w) w out out′ room room′ ∙ sym (ap answerOf (any-window w out′))
+
+-- what is read
+pub record ReadAccepted (w out : List ℕ) (reading : Reading) : Type 0 where
+  pub size : length w ≡ windowBits (numbersOf (reading .format))
+  pub bits : T (allBits w)
+  pub room : numbersOf (reading .format) .m ≤ length out
+  pub accepted : T (readsAs (reading .format) w)
+  pub reads : reading ≡ readingIn (reading .format) w
+  pub writes : readOf w out .output ≡ userBitsIn (reading .format) w ++ drop (numbersOf (reading .format) .m) out
+  pub scrambling : reading .scrambling < 4096
+  pub turn : reading .turn < numbersOf (reading .format) .n
+
+pub read-accepted : (w out : List ℕ) (reading : Reading) → readOf w out .answer ≡ Read reading → ReadAccepted w out reading
+unfolding readingIn readingOf
+read-accepted w out reading e =
+    let format = formatOf w in
+    let o = readOf w out .output in
+    let (h, room, reads, writes) =
+    answered-read format w out reading o (sym (any-window w out) ∙ ap (λ (a : ReadAnswer). outcome a o) e) in
+    let below = reads-below format w h in
+    subst (ReadAccepted w out) (sym reads)
+    (record {
+      size = reads-size format w h;
+      bits = reads-bits format w h;
+      room = room;
+      accepted = h;
+      reads = refl;
+      writes = writes;
+      scrambling = below .0;
+      turn = below .1;
+    })

@@ -1,0 +1,102 @@
+//! Plain Rust's check and read against the proved calls and the second program.
+
+use crate::plain::{check, condition_3, read};
+use compare::calls::{self, Tally};
+use compare::refusals::{provoking, Call};
+use compare::telegrams::*;
+use second::bits::{flip, turn_left};
+use second::conditions;
+use second::format::{Format, FORMATS};
+use second::random::Random;
+use second::telegram::{cut, well_formed};
+
+/// Compares plain Rust's answer with that of the proved call and of the
+/// second program.
+fn compare_check(tally: &mut Tally, telegram: &[u8]) {
+    let answer = check(telegram);
+    assert_eq!(answer, calls::check(telegram));
+    tally.add(answer);
+}
+
+/// The same of a window, with what is written.
+fn compare_read(tally: &mut Tally, random: &mut Random, window: &[u8], room: usize) {
+    let mut output = vec![0; room];
+    let answer = read(window, &mut output);
+    let (expected, user) = calls::read(random, window, room);
+    assert_eq!(answer, expected);
+    let written = answer.as_ref().map_or(0, |r| r.format.user_bits());
+    assert_eq!(output[..written], user[..written]);
+    assert!(output[written..].iter().all(|&byte| byte == 0));
+    tally.add(answer);
+}
+
+/// Well-formed telegrams, and some that are not.
+fn telegrams(random: &mut Random, format: Format) -> Vec<Vec<u8>> {
+    let mut list = random_telegrams(random, format, 20);
+    for telegram in list.clone() {
+        let mut damaged = telegram.clone();
+        damaged[random.below(telegram.len())] ^= 1;
+        let settings = random.bits(25);
+        let word = other_word(random);
+        let index = random.below(format.blocks());
+        list.extend([
+            damaged,
+            turn_left(&telegram, random.below(telegram.len())),
+            flip(&telegram),
+            divided(random, format),
+            with_bits(&telegram, format, format.shaped_bits(), &settings),
+            with_word(&telegram, format, index, word),
+        ]);
+    }
+    for kinds in 1..=20 {
+        let draw = |random: &mut Random| few_words(random, format, kinds);
+        list.push(drawn(random, format, draw, |t| well_formed(t, format)));
+    }
+    if format == Format::Long {
+        for (draw, number) in [(repeating_words as Draw, 11), (thinning_words, 12)] {
+            list.extend((0..5).map(|_| barred(random, format, draw, number)));
+        }
+    }
+    list
+}
+
+#[test]
+fn answers_are_those_of_the_proved_calls() {
+    let mut random = Random::new(4);
+    let (mut checked, mut windows) = (Tally::default(), Tally::default());
+    for format in FORMATS {
+        for telegram in telegrams(&mut random, format) {
+            compare_check(&mut checked, &telegram);
+            for flipped in [false, true] {
+                let turn = random.below(telegram.len());
+                let window = cut(&telegram, turn, format.window_bits(), flipped);
+                compare_read(&mut windows, &mut random, &window, format.user_bits());
+            }
+        }
+    }
+    for (_, call) in provoking(&mut random) {
+        match call {
+            Call::Check(telegram) => compare_check(&mut checked, &telegram),
+            Call::Read(window, room) => {
+                compare_read(&mut windows, &mut random, &window, room);
+            }
+            _ => {}
+        }
+    }
+    checked.print("telegrams checked by plain Rust, by number");
+    assert_eq!(checked.numbers(), [0, 1, 2, 6, 7, 8, 9, 10, 11, 12]);
+    windows.print("windows read by plain Rust, by number");
+    assert_eq!(windows.numbers(), [0, 1, 2, 3, 5, 6, 7, 8, 9]);
+}
+
+#[test]
+fn condition_3_agrees_on_bits_that_repeat() {
+    let mut random = Random::new(5);
+    for round in 0..2000 {
+        let bits = repeating_bits(&mut random, round % 6);
+        assert_eq!(
+            condition_3(Format::Long, &bits),
+            conditions::condition_3(&bits, Format::Long)
+        );
+    }
+}

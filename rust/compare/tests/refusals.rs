@@ -1,0 +1,55 @@
+//! The names and numbers of the refusals: those of include/balise.h, of the
+//! balise package and of docs/BENCH.md are what the library answers.
+
+use balise::Refusal;
+use compare::documents::{header_list, header_refusals, meanings};
+use compare::refusals::provoking;
+use second::random::Random;
+use std::collections::{BTreeMap, BTreeSet};
+
+/// A refusal's name in the header, from that in Rust: `NotBit` is `NOT_BIT`.
+fn header_name(refusal: Refusal) -> String {
+    let shown = format!("{refusal:?}");
+    let mut name = String::new();
+    for letter in shown.chars().take_while(char::is_ascii_alphabetic) {
+        if letter.is_ascii_uppercase() && !name.is_empty() {
+            name.push('_');
+        }
+        name.push(letter.to_ascii_uppercase());
+    }
+    name
+}
+
+#[test]
+fn header_and_wrapper_name_what_the_library_answers() {
+    let header = header_refusals();
+    let mut answered = BTreeMap::new();
+    let mut by_call: BTreeMap<&str, BTreeSet<u8>> = BTreeMap::new();
+    for (refusal, call) in provoking(&mut Random::new(95)) {
+        assert_eq!(call.refusal(), Some(refusal), "{}", call.name());
+        let name = header_name(refusal);
+        assert_eq!(header.get(&name), Some(&refusal.number()), "{name}");
+        answered.insert(name, refusal.number());
+        let numbers = by_call.entry(call.name()).or_default();
+        numbers.insert(refusal.number());
+    }
+    assert_eq!(header, answered);
+    for (call, numbers) in by_call {
+        assert_eq!(header_list(call), numbers, "{call}");
+    }
+    let named = Refusal::ALL.map(|refusal| (header_name(refusal), refusal.number()));
+    assert_eq!(BTreeMap::from(named), answered);
+}
+
+/// The page adds to some what it means in one call.
+#[test]
+fn wrapper_and_page_use_the_same_words() {
+    let meanings = meanings();
+    assert_eq!(meanings.len(), Refusal::ALL.len());
+    for (refusal, row) in Refusal::ALL.into_iter().zip(meanings) {
+        assert_eq!(refusal.number(), row.number);
+        let rest = row.means.strip_prefix(refusal.words());
+        let rest = rest.unwrap_or_else(|| panic!("{refusal}"));
+        assert!(rest.is_empty() || rest.starts_with("; "), "{refusal}");
+    }
+}
