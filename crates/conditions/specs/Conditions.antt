@@ -2,7 +2,7 @@
 -- at place n-1-i of the list, and the strip from b(n-1-p) rightward starts at place p.
 -- Assumes nothing.
 use Prim.Native.Nat.{ℕ, zero, suc, _+_, _-_, _*_, _%_, _^_}
-use mathlib.Core.Bool.{Bool, true, cond, _&&_}
+use mathlib.Core.Bool.{Bool, true, cond, _&&_, _||_}
 use mathlib.Core.List.{List, [], _∷_}
 use lib.Dec.{eqb, leb}
 use lib.ListN.{length, getD}
@@ -29,7 +29,7 @@ offStepLimit Long = 10
 offStepLimit Short = 6
 
 unfoldable pub limitAt : Format → ℕ → ℕ
-limitAt format p = cond (eqb p 1) 2 (cond (eqb p 10) 2 (offStepLimit format))
+limitAt format p = cond (eqb p 1 || eqb p 10) 2 (offStepLimit format)
 
 -- off step by p, on the straight strip: one word fewer fits
 unfoldable pub offStepAt : Format → List ℕ → ℕ → Bool
@@ -42,11 +42,11 @@ offStepWithin format b = fromTo 1 10 (offStepAt format b)
 unfoldable pub apart : ℕ → List ℕ → ℕ → ℕ → Bool
 apart d b p k = leb d (differences (around 22 p b) (around 22 (p + k) b))
 
--- b(i-1) stands at place p, b(i-341-1) 341 places on, and b(i-341-k-1) 341+k places on: for k = 1, -1, 2, -2, 3, -3
+-- b(i-1) stands at place p = n-i, and b(i-341-k-1) 341+k places on: at least 3 for k = 0, at least 2 for k = 1, -1, 2, -2, 3, -3
 unfoldable pub shiftedApart : List ℕ → ℕ → Bool
 shiftedApart b p = apart 3 b p 341 && fromTo 1 3 (λ (k : ℕ). apart 2 b p (341 + k) && apart 2 b p (341 - k))
 
--- i divisible by 11 is p divisible by 11, since n is
+-- for each i divisible by 11: n is divisible by 11, and so is p = n-i
 unfoldable pub notRepeating : Format → List ℕ → Bool
 notRepeating Long b = fromTo 0 (long .words - 1) (λ (j : ℕ). shiftedApart b (11 * j))
 notRepeating Short b = true

@@ -7,6 +7,7 @@ use native.Mathlib.Omega.{arith}
 use lib.Dec.{lit≤}
 use lib.ListN.{getD, length, take, replicate}
 use Rattle.bits.specs.Bits.{allBits, same, numberFrom, bitsOf}
+use Rattle.bits.specs.Groups.{overGroups}
 use Rattle.formats.specs.declared.format.Format.the-variants.{Long, Short}
 use Rattle.refusals.specs.declared.Refusal.{Refusal}
 use Rattle.refusals.specs.declared.Refusal.the-variants.{Length, EndsDiffer, NoTurn}
@@ -17,7 +18,7 @@ use Rattle.formats.specs.Numbers.{short, formatFor, fOf, gOf}
 use Rattle.words.specs.Table.{table}
 use Rattle.words.specs.Words.{wordOf}
 use Rattle.scrambling.specs.Scrambling.{nextState, scrambledFrom, scrambled}
-use Rattle.scrambling.specs.Sum.{sumOfBlocks, withSum, withoutSum}
+use Rattle.scrambling.specs.Sum.{withSum, withoutSum}
 use Rattle.cyclic.specs.Remainder.{step, remainderFrom, remainder}
 use Rattle.cyclic.specs.Check.{divisible, turnOf}
 use Rattle.cyclic.proofs.Laws.{shortFacts, zeros}
@@ -90,7 +91,7 @@ open-sheet x y z =
     0o00101 ∷ 0o03676 ∷ 2801775573 ∷ 1413323819 ∷ 1021 ∷ 0o03674 ∷ 802 ∷ 76 ∷ 1000 ∷ 735 ∷ 427 ∷ x ∷ y ∷ z ∷ []
 
 computed : answers ≡ open-sheet (refusedRead (replicate 462 0)) (refusedRead (replicate 461 0 ++ (1 ∷ []))) (refusedRead (replicate 461 0))
-unfolding answers open-sheet wordOf table numberFrom bitsOf scrambled scrambledFrom nextState withSum withoutSum sumOfBlocks remainder remainderFrom step sum fOf polynomial coefficientsBelow coefficientOf
+unfolding answers open-sheet wordOf table numberFrom bitsOf scrambled scrambledFrom nextState withSum withoutSum overGroups remainder remainderFrom step sum fOf polynomial coefficientsBelow coefficientOf
 computed = refl
 
 pub bench-sheet : answers ≡ sheet

@@ -3,21 +3,19 @@
 use mathlib.Core.List.{List}
 use mathlib.Core.Path.{_≡_, sym, ap, ap₂, _∙_}
 use Prim.Native.Nat.{ℕ, zero, suc, _+_, _-_, _*_, _/_, _%_, _≤_, _<_}
-use native.Mathlib.Nat.{zero-add}
 use native.Mathlib.Omega.{arith}
-use lib.Dec.{T, leb→le}
+use lib.Dec.{T}
 use lib.ListN.{length, take, drop, length-take, length-drop}
 use lib.Seq.{drop-drop}
 use Rattle.bits.specs.Bits.{allBits, around, flip}
 use Rattle.bits.specs.Differences.{differences}
 use Rattle.bits.proofs.AllBits.{allBits-take, allBits-drop}
-use Rattle.bits.proofs.And.{and-left}
 use Rattle.bits.proofs.Differences.{differences-append, differences-cut, differences-drop, differences-flip, differences-symmetric, differences-triangle}
 use Rattle.bits.proofs.Flipped.{flip-take, flip-drop, length-flip}
 use Rattle.bits.proofs.Ring.{length-around, allBits-around, around-append, around-rounds, take-around, drop-around}
 use Rattle.formats.specs.declared.format.Format.the-variants.{Long}
-use Rattle.conditions.specs.Conditions.{apart, shiftedApart, notRepeating}
-use Rattle.conditions.proofs.Each.{each-at}
+use Rattle.conditions.specs.Conditions.{notRepeating}
+use Rattle.conditions.proofs.Apart.{word-apart}
 
 -- first j places of both, then the rest
 differences-around : (j k p q : ℕ) (b : List ℕ) → differences (around (j + k) p b) (around (j + k) q b)
@@ -37,19 +35,12 @@ ends-changes r d x w e f agree =
     omega (arith, differences-triangle (take r x) (take r w) (drop (r + d) x) (simp length-take (omega arith)) (simp (length-take, length-drop) (omega arith)))
 
 module _ (b : List ℕ) (size : length b ≡ 1023) (condition : T (notRepeating Long b)) where
-  -- condition 3 at one of the 93 words
-  word-apart : (j : ℕ) → j < 93 → 3 ≤ differences (around 22 (11 * j) b) (around 22 (11 * j + 341) b)
-  unfolding notRepeating shiftedApart apart
-  word-apart j below =
-      let at-word : T (shiftedApart b (11 * j)) = rw zero-add at (each-at (λ (k : ℕ). shiftedApart b (11 * k)) 0 93 j condition below) in
-      leb→le 3 (differences (around 22 (11 * j) b) (around 22 (11 * j + 341) b)) (and-left (apart 3 b (11 * j) 341) _ at-word)
-
   -- at every multiple of 11, going round
   block-apart : (j : ℕ) → 3 ≤ differences (around 22 (11 * j) b) (around 22 (11 * j + 341) b)
   block-apart j =
       let near : 11 * j ≡ 11 * (j % 93) + (j / 93) * length b = rw size (omega arith) in
       let far : 11 * j + 341 ≡ 11 * (j % 93) + 341 + (j / 93) * length b = rw size (omega arith) in
-      rw (far, near) (simp around-rounds (word-apart (j % 93) (omega arith)))
+      rw (far, near) (simp around-rounds (word-apart b condition (j % 93) (omega arith)))
 
   -- n blocks in a row
   blocks-apart : (n j : ℕ) → 3 * n ≤ differences (around (22 * n) (11 * j) b) (around (22 * n) (11 * j + 341) b)

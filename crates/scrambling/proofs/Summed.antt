@@ -1,30 +1,28 @@
 -- Adding the sum and removing it keep the length, give bits, and undo each other, for any number k of blocks. Assumes nothing.
-use mathlib.Core.Path.{_≡_, ap, ap₂, _∙_}
+use mathlib.Core.Path.{_≡_, refl, ap, ap₂, _∙_}
 use mathlib.Core.List.{List, _++_}
 use Prim.Native.Nat.{ℕ, zero, suc, _+_, _-_, _%_, _≤_, _<_}
 use native.Mathlib.Omega.{arith}
 use lib.Dec.{T}
-use lib.ListN.{length, take, drop, length-append, length-drop, take-append-drop}
-use lib.Seq.{take-at, drop-at, length-take-le}
-use Rattle.bits.specs.Bits.{allBits, numberOf, bitsOf}
-use Rattle.bits.proofs.AllBits.{allBits-append, allBits-take, allBits-drop, allBits-bitsOf}
-use Rattle.bits.proofs.Numbers.{length-bitsOf, numberOf-bitsOf, bitsOf-numberOf}
+use lib.ListN.{length, drop, length-append, length-drop, take-append-drop}
+use lib.Seq.{drop-at}
+use Rattle.bits.specs.Bits.{allBits, bitsOf}
+use Rattle.bits.specs.Groups.{overGroups}
+use Rattle.bits.proofs.AllBits.{allBits-append, allBits-drop, allBits-bitsOf}
+use Rattle.bits.proofs.Numbers.{length-bitsOf}
+use Rattle.bits.proofs.Parts.{front-below, front-bits, front-number}
 use Rattle.scrambling.specs.Sum.{firstBlock, withFirstBlock, sumOfBlocks, sumOfOthers, withSum, withoutSum}
-use Rattle.scrambling.proofs.BlockSum.{firstBlock-below}
 
 -- ---- a block list with another first block
 
 replaced-first : (x : ℕ) (u : List ℕ) → x < 1024 → firstBlock (withFirstBlock x u) ≡ x
-replaced-first x u h =
-    let whole : x % 1024 ≡ x = omega arith in
-    ap numberOf (take-at (bitsOf 10 x) (drop 10 u) 10 (length-bitsOf 10 x)) ∙ numberOf-bitsOf 10 x ∙ whole
+replaced-first x u h = front-number 10 x (drop 10 u) (withFirstBlock x u) refl h
 
 replaced-others : (x : ℕ) (u : List ℕ) → drop 10 (withFirstBlock x u) ≡ drop 10 u
 replaced-others x u = drop-at (bitsOf 10 x) (drop 10 u) 10 (length-bitsOf 10 x)
 
 replaced-own : (u : List ℕ) → T (allBits u) → 10 ≤ length u → withFirstBlock (firstBlock u) u ≡ u
-replaced-own u h l =
-    ap (λ (f : List ℕ). f ++ drop 10 u) (bitsOf-numberOf 10 (take 10 u) (allBits-take 10 u h) (length-take-le 10 u l)) ∙ take-append-drop 10 u
+replaced-own u h l = ap (λ (f : List ℕ). f ++ drop 10 u) (front-bits 10 u h l) ∙ take-append-drop 10 u
 
 replaced-length : (x : ℕ) (u : List ℕ) → 10 ≤ length u → length (withFirstBlock x u) ≡ length u
 replaced-length x u l = omega (arith, length-append (bitsOf 10 x) (drop 10 u), length-bitsOf 10 x, length-drop 10 u)
@@ -35,7 +33,7 @@ replaced-bits x u h = allBits-append (bitsOf 10 x) (drop 10 u) (allBits-bitsOf 1
 -- ---- the sum added and removed
 
 sum-split : (k : ℕ) (u : List ℕ) → 1 ≤ k → sumOfBlocks k u ≡ firstBlock u + sumOfOthers k u
-unfolding sumOfBlocks
+unfolding overGroups
 sum-split zero u h = absurd (omega arith)
 sum-split (suc k) u h =
     let one-less : k ≡ suc k - 1 = omega arith in
@@ -71,7 +69,7 @@ withoutSum-withSum k u h one l =
     let F = firstBlock u in
     let S = sumOfBlocks k u in
     let O = sumOfOthers k u in
-    let back : (S % 1024 + (1024 - O % 1024)) % 1024 ≡ F = omega (arith, sum-split k u one, firstBlock-below u h) in
+    let back : (S % 1024 + (1024 - O % 1024)) % 1024 ≡ F = omega (arith, sum-split k u one, front-below 10 u h) in
     removed k (S % 1024) u (omega arith) ∙ ap (λ (x : ℕ). withFirstBlock x u) back ∙ replaced-own u h l
 
 pub withSum-withoutSum : (k : ℕ) (v : List ℕ) → T (allBits v) → 1 ≤ k → 10 ≤ length v → withSum k (withoutSum k v) ≡ v
@@ -80,5 +78,5 @@ withSum-withoutSum k v h one l =
     let F = firstBlock v in
     let O = sumOfOthers k v in
     let x = (F + (1024 - O % 1024)) % 1024 in
-    let back : (x + O) % 1024 ≡ F = omega (arith, firstBlock-below v h) in
+    let back : (x + O) % 1024 ≡ F = omega (arith, front-below 10 v h) in
     added k x v one (omega arith) ∙ ap (λ (y : ℕ). withFirstBlock y v) back ∙ replaced-own v h l

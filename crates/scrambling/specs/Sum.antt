@@ -1,10 +1,11 @@
 -- The first block replaced by the sum of all blocks of ten bits, and the undoing (document 01, "Scrambling", and "Search, reading and place").
 -- Formula 3.3 of source document 000 prints an addition for the undoing: the other blocks are subtracted.
 -- Assumes nothing.
-use Prim.Native.Nat.{ℕ, zero, suc, _+_, _-_, _%_}
+use Prim.Native.Nat.{ℕ, _+_, _-_, _%_}
 use mathlib.Core.List.{List, _++_}
 use lib.ListN.{take, drop}
 use Rattle.bits.specs.Bits.{numberOf, bitsOf}
+use Rattle.bits.specs.Groups.{overGroups}
 
 -- the number of the first block of u
 abbrev pub firstBlock : List ℕ → ℕ
@@ -15,9 +16,8 @@ abbrev pub withFirstBlock : ℕ → List ℕ → List ℕ
 withFirstBlock x u = bitsOf 10 x ++ drop 10 u
 
 -- the sum of the first k blocks of u
-unfoldable pub sumOfBlocks : ℕ → List ℕ → ℕ
-sumOfBlocks zero u = 0
-sumOfBlocks (suc k) u = firstBlock u + sumOfBlocks k (drop 10 u)
+abbrev pub sumOfBlocks : ℕ → List ℕ → ℕ
+sumOfBlocks = overGroups _+_ 0 numberOf 10
 
 -- the sum of the blocks after the first, of k blocks in all
 abbrev pub sumOfOthers : ℕ → List ℕ → ℕ

@@ -7,8 +7,8 @@ use borrow.Author.Needs.{needs}
 use lib.ListN.{length, take, drop, length-drop}
 use lib.Seq.{take-all}
 use Rattle.bits.proofs.AllBits.{allBits-drop}
+use Rattle.bits.proofs.Parts.{front-below}
 use Rattle.scrambling.specs.Sum.{firstBlock, withFirstBlock, sumOfBlocks, sumOfOthers, withoutSum}
-use Rattle.scrambling.proofs.BlockSum.{firstBlock-below}
 use Rattle.scrambling.proofs.remove_sum.Statement.{statement}
 use Rattle.scrambling.proofs.remove_sum.Tie as tie
 
@@ -46,7 +46,7 @@ add-write-number : tie.Need-add-write-number
 add-write-number c =
     let first = c .before .before .before .before in
     let start = first .before .before .before in
-    omega (arith, first .number .ensures, firstBlock-below (start .args .block .now) (start .pre .0))
+    omega (arith, first .number .ensures, front-below 10 (start .args .block .now) (start .pre .0))
 
 write-number-requires : tie.Need-write-number-requires
 write-number-requires c κs = search needs

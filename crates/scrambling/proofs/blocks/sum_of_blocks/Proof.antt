@@ -5,9 +5,11 @@ use Prim.Native.Nat.{ℕ, _+_, _-_, _*_, _/_, _≤_, _<_}
 use native.Mathlib.Nat.{zero-add}
 use native.Mathlib.Omega.{arith}
 use lib.ListN.{length, drop}
+use Rattle.bits.specs.Bits.{numberOf}
 use Rattle.bits.proofs.AllBits.{allBits-drop}
+use Rattle.bits.proofs.Groups.{groups-next, groups-done}
+use Rattle.bits.proofs.Parts.{front-below}
 use Rattle.scrambling.specs.Sum.{sumOfBlocks}
-use Rattle.scrambling.proofs.BlockSum.{firstBlock-below, sum-more, sum-done}
 use Rattle.scrambling.proofs.blocks.sum_of_blocks.Statement.{statement}
 use Rattle.scrambling.proofs.blocks.sum_of_blocks.Tie as tie
 
@@ -34,7 +36,7 @@ small : (c : tie.After-number Inv-loop μ-loop) → c .number .result < 1024
 small c =
     let l = c .before .before in
     let block = l .before .before .args .block .now in
-    rw (c .number .ensures) (firstBlock-below (drop (10 * l .loop .j) block) (allBits-drop (10 * l .loop .j) block (l .before .before .pre .0)))
+    rw (c .number .ensures) (front-below 10 (drop (10 * l .loop .j) block) (allBits-drop (10 * l .loop .j) block (l .before .before .pre .0)))
 
 add-sum : tie.Need-add-sum Inv-loop μ-loop
 add-sum c = omega (arith, small c)
@@ -51,13 +53,13 @@ loop-again c =
     let block = l .before .before .args .block .now in
     let j = l .loop .j in
     let k = length block / 10 in
-    (omega arith, omega (arith, small c), omega (arith, sum-more k j block (omega arith), c .number .ensures))
+    (omega arith, omega (arith, small c), omega (arith, groups-next _+_ 0 numberOf 10 k j block (omega arith), c .number .ensures))
 
 returns : tie.Need-returns Inv-loop μ-loop
 returns c =
     let l = c .before in
     let block = l .before .before .args .block .now in
-    omega (arith, l .loop .inv .2, sum-done (length block / 10) (l .loop .j) (drop (10 * l .loop .j) block) (c .loop-test .left))
+    omega (arith, l .loop .inv .2, groups-done _+_ 0 numberOf 10 (length block / 10) (l .loop .j) (drop (10 * l .loop .j) block) (c .loop-test .left))
 
 pub sum-of-blocks-spec : {M : Type 1} → statement M
 sum-of-blocks-spec =
