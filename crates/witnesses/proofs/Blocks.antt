@@ -14,7 +14,7 @@ use Rattle.formats.specs.Polynomial.{coefficientOf, coefficientsBelow, polynomi
 use Rattle.words.specs.Table.{table}
 use Rattle.words.specs.Words.{wordOf, lookupFrom, lookupOf, isWord}
 use Rattle.scrambling.specs.Scrambling.{nextState, scrambledFrom, scrambled}
-use Rattle.scrambling.specs.Sum.{sumOfBlocks, withSum}
+use Rattle.scrambling.specs.Sum.{withSum}
 use Rattle.cyclic.specs.Remainder.{step, remainderFrom, remainder}
 use Rattle.cyclic.specs.Check.{gPadded, checkBits}
 use Rattle.telegrams.specs.Telegram.{shapedData, settings, unchecked, telegramOf}
@@ -45,11 +45,11 @@ shaping-below Short = omega arith
 -- ---- the telegram is proper
 
 long-passes : T (properTwice Long (telegram Long))
-unfolding telegramOf unchecked settings shapedData overGroups checkBits gPadded remainder remainderFrom step fgOf fOf gOf polynomial coefficientsBelow coefficientOf sum product scrambled scrambledFrom nextState withSum sumOfBlocks wordOf table bitsOf numberFrom isWord lookupOf lookupFrom differences longestAfter each limitAt validIn thinnedIn
+unfolding telegramOf unchecked settings shapedData overGroups checkBits gPadded remainder remainderFrom step fgOf fOf gOf polynomial coefficientsBelow coefficientOf sum product scrambled scrambledFrom nextState withSum wordOf table bitsOf numberFrom isWord lookupOf lookupFrom differences longestAfter each limitAt validIn thinnedIn
 long-passes = tt
 
 short-passes : T (properTwice Short (telegram Short))
-unfolding telegramOf unchecked settings shapedData overGroups checkBits gPadded remainder remainderFrom step fgOf fOf gOf polynomial coefficientsBelow coefficientOf sum product scrambled scrambledFrom nextState withSum sumOfBlocks wordOf table bitsOf numberFrom isWord lookupOf lookupFrom differences longestAfter each limitAt validIn thinnedIn
+unfolding telegramOf unchecked settings shapedData overGroups checkBits gPadded remainder remainderFrom step fgOf fOf gOf polynomial coefficientsBelow coefficientOf sum product scrambled scrambledFrom nextState withSum wordOf table bitsOf numberFrom isWord lookupOf lookupFrom differences longestAfter each limitAt validIn thinnedIn
 short-passes = tt
 
 passes : (format : Format) → T (properTwice format (telegram format))
