@@ -1,6 +1,6 @@
 -- The windows of a capture, and the places at which read accepts. Assumes nothing.
 use mathlib.Core.Path.{_≡_, refl, sym, ap, subst⁻¹, _∙_}
-use mathlib.Core.Bool.{Bool, true, false, _||_}
+use mathlib.Core.Bool.{Bool, true, false}
 use mathlib.Core.List.{List, []}
 use Prim.Native.Nat.{ℕ, _+_, _-_, _≤_, _<_}
 use native.Mathlib.Omega.{arith}
@@ -11,8 +11,8 @@ use lib.Seq.{length-take-le}
 use Rattle.bits.specs.Bits.{allBits}
 use Rattle.bits.specs.Search.{found, none}
 use Rattle.bits.proofs.AllBits.{allBits-take, allBits-drop}
-use Rattle.bits.proofs.First.{NonePasses, found-first, missing-first}
-use Rattle.bits.proofs.Tests.{holds, is-true, is-false}
+use Rattle.bits.proofs.First.{found-first, missing-first}
+use Rattle.bits.proofs.Tests.{is-false}
 use Rattle.formats.specs.declared.format.Format.{Format}
 use Rattle.formats.specs.declared.format.Format.the-variants.{Long, Short}
 use Rattle.formats.specs.Numbers.{long, short, numbersOf, windowBits}

@@ -1,10 +1,9 @@
 -- What the search answers, by the verdict of its table, and the search that writes by its own. Assumes nothing.
 use Prim.Native.Nat.{ℕ, _≤_}
-use mathlib.Core.Path.{_≡_, refl, sym, ap, _∙_}
-use mathlib.Core.Bool.{true, false}
-use mathlib.Core.List.{List, []}
-use borrow.Author.Tests.{le-leb, lt-leb}
-use lib.Dec.{T, leb}
+use mathlib.Core.Path.{_≡_, refl, ap, _∙_}
+use mathlib.Core.Bool.{true}
+use mathlib.Core.List.{List}
+use borrow.Author.Tests.{le-leb}
 use lib.ListN.{length}
 use Rattle.bits.specs.Bits.{allBits}
 use Rattle.bits.specs.Search.{First, found, none, isFound, whichFound}
@@ -12,9 +11,7 @@ use Rattle.formats.specs.Numbers.{long}
 use Rattle.refusals.specs.declared.Refusal.{Refusal}
 use Rattle.refusals.specs.declared.Refusal.the-variants.{NoPlace}
 use Rattle.refusals.specs.Table.{Verdict, refused, accepted, verdict, answerBy, outcomeBy}
-use Rattle.refusals.specs.Outcome.{Outcome, outcome}
 use Rattle.refusals.proofs.Table.{Decides, passed, failed, all-passed, answer-by}
-use Rattle.captures.specs.declared.Capture.{Capture}
 use Rattle.captures.specs.declared.Capture.the-variants.{Refused}
 use Rattle.captures.specs.Captures.{captureLimit, firstPlace, foundAt, foundOut, searchTable, searchOf, searchReadTable, searchReadOf}
 use Rattle.captures.specs.Attempts.{outFound}

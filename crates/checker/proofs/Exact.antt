@@ -1,8 +1,8 @@
 -- Checking is exact (document 01, "When the bench says no" and "What the bench can be held to"): it accepts the proper telegrams and no
 -- others, and each refusal number is given exactly where it is the lowest that applies. Assumes nothing.
 use Prim.Native.Nat.{ℕ}
-use mathlib.Core.Path.{_≡_, refl, sym, ap, subst, _∙_}
-use mathlib.Core.Bool.{Bool, true, false, not}
+use mathlib.Core.Path.{_≡_, refl, ap, subst, _∙_}
+use mathlib.Core.Bool.{Bool, false, not}
 use mathlib.Core.Logic.{_↔_}
 use mathlib.Core.List.{List}
 use borrow.Author.Tests.{eqb-true, not-false}

@@ -1,6 +1,6 @@
 -- What checking answers, by the verdict of its table (document 01, "When the bench says no"). Assumes nothing.
 use Prim.Native.Nat.{ℕ}
-use mathlib.Core.Path.{_≡_, refl, ap, _∙_}
+use mathlib.Core.Path.{_≡_, refl, ap}
 use mathlib.Core.List.{List}
 use lib.ListN.{length}
 use Rattle.formats.specs.declared.format.Format.{Format}

@@ -5,7 +5,7 @@ use mathlib.Core.List.{List, [], _∷_, _++_}
 use Prim.Native.Nat.{ℕ}
 use native.Mathlib.Omega.{arith}
 use lib.Dec.{lit≤}
-use lib.ListN.{getD, length, take, replicate}
+use lib.ListN.{getD, replicate}
 use Rattle.bits.specs.Bits.{allBits, same, numberFrom, bitsOf}
 use Rattle.bits.specs.Groups.{overGroups}
 use Rattle.formats.specs.declared.format.Format.the-variants.{Long, Short}

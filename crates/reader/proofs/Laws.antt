@@ -11,7 +11,7 @@ use Rattle.bits.proofs.Tests.{clash, holds, fails, is-false}
 use Rattle.formats.specs.declared.format.Format.{Format}
 use Rattle.formats.specs.Numbers.{numbersOf, windowBits}
 use Rattle.refusals.specs.declared.Refusal.{Refusal}
-use Rattle.refusals.specs.Table.{Verdict, refused, accepted, verdict, answerBy, outcomeBy}
+use Rattle.refusals.specs.Table.{Verdict, refused, accepted, verdict}
 use Rattle.refusals.specs.Outcome.{Outcome, outcome}
 use Rattle.refusals.proofs.Table.{answer-by}
 use Rattle.telegrams.proofs.WellFormed.{scrambling-below}
@@ -124,13 +124,9 @@ pub answer-as : (format : Format) (w out out′ : List ℕ) → numbersOf format
     → readAs format w out .answer ≡ readAs format w out′ .answer
 answer-as format w out out′ room room′ =
     let v = verdict (readTable format (numbersOf format .m) w) in
-    ap answerOf (decided format w out v (with-room format w (length out) room)) ∙ go v
-    ∙ sym (ap answerOf (decided format w out′ v (with-room format w (length out′) room′)))
-  where
-    go : (v : Verdict Refusal) → outcomeBy Refused out (readOut format w out) v .answer
-        ≡ answerBy (λ (r : Refusal). outcome (Refused r) out′) (readOut format w out′) v .answer
-    go (refused r) = refl
-    go accepted = refl
+    ap answerOf (decided format w out v (with-room format w (length out) room))
+    ∙ answer-by Refused out (readOut format w out) v
+    ∙ sym (ap answerOf (decided format w out′ v (with-room format w (length out′) room′)) ∙ answer-by Refused out′ (readOut format w out′) v)
 
 -- ---- what is answered for any window
 

@@ -2,15 +2,15 @@
 -- which is the lowest that applies where the numbers rise; accepted is what no refusal applies to. Assumes nothing.
 use Prim.Native.Nat.{ℕ, _≤_, _<_}
 use mathlib.Core.Path.{_≡_, refl, sym, ap, _∙_}
-use mathlib.Core.Bool.{Bool, true, false, not, cond, _&&_}
+use mathlib.Core.Bool.{Bool, true, false, not, cond}
 use mathlib.Core.List.{List, [], _∷_}
-use mathlib.Core.Logic.{_↔_, _⊎_, inl, inr}
+use mathlib.Core.Logic.{_↔_, inl, inr}
 use native.Mathlib.Omega.{arith}
 use lib.Dec.{T, ltb, ltb→lt}
 use Rattle.bits.proofs.And.{and-left, and-right}
 use Rattle.bits.proofs.Tests.{clash}
 use Rattle.refusals.specs.Outcome.{Outcome}
-use Rattle.refusals.specs.Table.{Row, _when_, Verdict, refused, accepted, verdict, answerBy, outcomeBy, RowApplies, Applies, FirstApplies, Lowest, RefusesBy, risesAbove}
+use Rattle.refusals.specs.Table.{Row, _when_, Verdict, refused, accepted, verdict, answerBy, outcomeBy, Applies, FirstApplies, Lowest, RefusesBy, risesAbove}
 
 module _ {R : Type 0} where
   -- ---- a verdict is one of the two

@@ -1,12 +1,11 @@
 -- `captures::search_bits` meets its contract. The loop's invariant: read accepts at none of the places passed, and the output is as it was.
 -- Assumes nothing.
 use mathlib.Core.Path.{_≡_, refl, sym, ap, _∙_}
-use mathlib.Core.List.{List}
-use Prim.Native.Nat.{ℕ, _-_, _≤_}
+use Prim.Native.Nat.{_-_, _≤_}
 use native.Mathlib.Omega.{arith}
 use borrow.Author.Needs.{needs}
 use lib.ListN.{length}
-use Rattle.formats.specs.declared.format.Format.the-variants.{Long, Short}
+use Rattle.formats.specs.declared.format.Format.the-variants.{Long}
 use Rattle.refusals.specs.Outcome.{outcome}
 use Rattle.captures.specs.declared.Tried.{Tried}
 use Rattle.captures.specs.declared.Tried.the-variants.{Nothing}

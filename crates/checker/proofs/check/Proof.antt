@@ -2,7 +2,6 @@
 use borrow.Author.Needs.{needs}
 use borrow.Author.Tests.{not-true, not-false, eq-eqb, ne-eqb}
 use mathlib.Core.Path.{_≡_, sym, ap, _∙_}
-use Prim.Native.Nat.{ℕ}
 use lib.ListN.{length}
 use Rattle.bits.proofs.Tests.{holds}
 use Rattle.formats.specs.declared.format.Format.{Format}
