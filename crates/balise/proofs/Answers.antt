@@ -1,135 +1,142 @@
--- What the calls answer fits the fields of the number: B has twelve bits, esb and a turn have ten, a count has 23,
--- and a place is within the limit.
--- Assumes nothing.
-use mathlib.Core.Path.{_≡_, refl, sym, ap}
-use mathlib.Core.Bool.{Bool, true, false}
-use mathlib.Core.List.{List}
+-- Whatever a call answers fits the fields of its number, and so is read back from it: B has twelve bits, esb and a turn have ten, a
+-- count has 23, and a place is within the limit. Assumes nothing.
+use mathlib.Core.Path.{_≡_, refl}
+use mathlib.Core.Bool.{Bool, true, false, cond}
+use mathlib.Core.List.{List, _∷_}
 use Prim.Native.Nat.{ℕ, _≤_, _<_}
 use native.Mathlib.Omega.{arith}
-use lib.Dec.{leb}
-use lib.ListN.{length, take}
-use Rattle.bits.specs.Bits.{allBits}
-use Rattle.bits.specs.Search.{First, found, none}
-use Rattle.bits.proofs.First.{first-found}
-use Rattle.bits.proofs.Tests.{holds}
+use lib.Dec.{eqb}
+use lib.ListN.{length, replicate, length-replicate}
 use Rattle.formats.specs.declared.format.Format.{Format}
 use Rattle.formats.specs.declared.format.Format.the-variants.{Long, Short}
-use Rattle.formats.specs.declared.format.Fit.{Fit}
-use Rattle.formats.specs.declared.format.Fit.the-variants.{As, Nothing}
-use Rattle.formats.specs.declared.refusal.Refusal.the-variants.{NotBit, OutputShort}
-use Rattle.formats.specs.Numbers.{long, short, numbersOf, windowBits, fitOf, fOf}
-use Rattle.formats.specs.Refused.{triedCount}
-use Rattle.formats.specs.Outcome.{Outcome, outcome, orRefuse}
-use Rattle.cyclic.specs.Remainder.{remainder}
-use Rattle.cyclic.proofs.Turns.{turnOf-at}
-use Rattle.telegrams.proofs.WellFormed.{scrambling-below}
+use Rattle.formats.specs.Numbers.{numbersOf}
+use Rattle.refusals.specs.declared.Refusal.{Refusal}
+use Rattle.refusals.specs.declared.Refusal.the-variants.{Length, NotBit, OutputShort, NoPair, EndsDiffer, NotDivisible, NoTurn, Control, NotWord, OffStep, Repeating, Thinned, NoPlace}
+use Rattle.refusals.specs.Refused.{pairCount, refusalNumber, triedCount}
+use Rattle.refusals.specs.AnswerValues.{formatNumber, flippedNumber}
 use Rattle.encoder.specs.declared.Encoded.{Encoded}
 use Rattle.encoder.specs.declared.Encoded.the-variants.{Pair, Refused as NotEncoded}
-use Rattle.encoder.specs.Encoding.{pairCount, passes, firstPair, written, encodeAs, encodeFit, encodeOf}
+use Rattle.encoder.specs.Encoding.{encodedValues, encodeOf}
+use Rattle.encoder.proofs.Accepted.{encode-accepted}
+use Rattle.checker.specs.declared.Checked.{Checked}
+use Rattle.checker.specs.declared.Checked.the-variants.{Proper, Refused as NotProper}
+use Rattle.checker.specs.Checking.{checkedValues, checkOf}
 use Rattle.reader.specs.declared.Reading.{Reading}
 use Rattle.reader.specs.declared.ReadAnswer.{ReadAnswer}
 use Rattle.reader.specs.declared.ReadAnswer.the-variants.{Read, Refused as NotRead}
-use Rattle.reader.specs.Reads.{telegramIn, readingOf, readFit, readOf}
-use Rattle.reader.proofs.Accepted.{accepted-passed}
-use Rattle.reader.proofs.Parts.Found.{bits-found}
+use Rattle.reader.specs.Reads.{readingValues, readValues, readOf}
+use Rattle.reader.proofs.Laws.{read-accepted}
 use Rattle.captures.specs.declared.Capture.{Capture}
 use Rattle.captures.specs.declared.Capture.the-variants.{Found, Refused as NotFound}
-use Rattle.captures.specs.Captures.{captureLimit, windowAt, searchOf}
-use Rattle.captures.proofs.Attempts.{zeros, zeros-room}
-use Rattle.captures.proofs.FirstPlace.{searches}
-use Rattle.balise.specs.AsNumber.{turnIn, turnFound, placeFound}
+use Rattle.captures.specs.Captures.{captureValues, windowAt, searchOf}
+use Rattle.captures.proofs.Exact.{searches}
+use Rattle.balise.specs.AsNumber.{encodedSizes, checkedSizes, readSizes, searchSizes, Fits, ReadBack}
+use Rattle.balise.proofs.Fields.{fits-back}
 
--- ---- encode
+-- ---- single values
 
--- a pair, or the count that a refusal carries
-abbrev pub EncodedFits : Encoded → Type 0
-EncodedFits (Pair format B esb tried) = (B < 4096) × (esb < 1024) × (tried ≤ pairCount)
-EncodedFits (NotEncoded refusal) = triedCount refusal ≤ pairCount
+format-fits : (format : Format) → formatNumber format < 2
+format-fits Long = omega arith
+format-fits Short = omega arith
 
-module _ (format : Format) (u out : List ℕ) where
-  written-fits : (first : First) → firstPair format u ≡ first → EncodedFits (written format u out first .answer)
-  unfolding firstPair
-  written-fits (found p) e =
-      let below = first-found (passes format u) 0 pairCount p e .below in
-      (omega arith, omega arith, omega arith)
-  written-fits none e = omega arith
+flipped-fits : (flipped : Bool) → flippedNumber flipped < 2
+flipped-fits true = omega arith
+flipped-fits false = omega arith
 
-  tested-fits : (bits room : Bool)
-      → EncodedFits
-      (orRefuse bits (outcome (NotEncoded NotBit) out)
-      (orRefuse room (outcome (NotEncoded OutputShort) out) (written format u out (firstPair format u))) .answer)
-  tested-fits true true = written-fits (firstPair format u) refl
-  tested-fits true false = omega arith
-  tested-fits false room = omega arith
-
-  as-fits : EncodedFits (encodeAs format u out .answer)
-  unfolding encodeAs
-  as-fits = tested-fits (allBits u) (leb (numbersOf format .n) (length out))
-
--- whatever encode answers
-pub encoded-fits : (u out : List ℕ) → EncodedFits (encodeOf u out .answer)
-unfolding encodeOf
-encoded-fits u out = go (fitOf (long .m) (short .m) (length u))
-  where
-    go : (fit : Fit) → EncodedFits (encodeFit fit u out .answer)
-    go (As format) = as-fits format u out
-    go Nothing = omega arith
-
--- ---- read
-
--- the reading that read answers
-pub record ReadingFits (reading : Reading) : Type 0 where
-  pub scrambling : reading .scrambling < 4096
-  pub turn : reading .turn < 1024
-
+-- a telegram has fewer bits than the turn's field has values
 telegram-size : (format : Format) → numbersOf format .n < 1024
 telegram-size Long = omega arith
 telegram-size Short = omega arith
 
-module _ (w out o : List ℕ) (reading : Reading) where
-  accepted-fits : (format : Format) → readFit (As format) w out ≡ outcome (Read reading) o → ReadingFits reading
-  unfolding readingOf
-  accepted-fits format e =
-      let F = numbersOf format in
-      let p = accepted-passed format w out reading o e in
-      let below = turnOf-at F (p .t) (remainder (fOf F) (take (F .n) w)) (p .turn) .0 in
-      let fits = scrambling-below F (telegramIn F (p .t) w) (bits-found F (p .t) w (holds (allBits w) (p .bits))) in
-      record {
-        scrambling = omega (arith, ap (λ (r : Reading). r .scrambling) (p .reads));
-        turn = omega (arith, ap (λ (r : Reading). r .turn) (p .reads), telegram-size format);
-      }
+-- a refusal's number is not 0, which stands for none, and fits its field
+pub number-fits : (refusal : Refusal) → (1 ≤ refusalNumber refusal) × (refusalNumber refusal < 256)
+number-fits Length = (omega arith, omega arith)
+number-fits NotBit = (omega arith, omega arith)
+number-fits OutputShort = (omega arith, omega arith)
+number-fits NoPair = (omega arith, omega arith)
+number-fits EndsDiffer = (omega arith, omega arith)
+number-fits NotDivisible = (omega arith, omega arith)
+number-fits NoTurn = (omega arith, omega arith)
+number-fits Control = (omega arith, omega arith)
+number-fits NotWord = (omega arith, omega arith)
+number-fits OffStep = (omega arith, omega arith)
+number-fits Repeating = (omega arith, omega arith)
+number-fits Thinned = (omega arith, omega arith)
+number-fits NoPlace = (omega arith, omega arith)
 
-  pub reading-fits : readOf w out ≡ outcome (Read reading) o → ReadingFits reading
-  unfolding readOf
-  reading-fits e = go (fitOf (windowBits long) (windowBits short) (length w)) e
+tried-fits : (refusal : Refusal) → triedCount refusal < 8388608
+tried-fits refusal = go (eqb (refusalNumber refusal) 4)
+  where
+    go : (all : Bool) → cond all pairCount 0 < 8388608
+    go true = omega arith
+    go false = omega arith
+
+-- ---- encode
+
+module _ (u out : List ℕ) where
+  pub encode-fits : Fits encodedSizes (encodedValues (encodeOf u out .answer))
+  encode-fits = go (encodeOf u out .answer) refl
     where
-      go : (fit : Fit) → readFit fit w out ≡ outcome (Read reading) o → ReadingFits reading
-      go (As format) f = accepted-fits format f
-      go Nothing f =
-          let answers = ap (λ (y : Outcome ReadAnswer). y .answer) f in
-          let z : _≡_ {A = ℕ} 0 1 = cc in
-          absurd (omega arith)
+      go : (a : Encoded) → encodeOf u out .answer ≡ a → Fits encodedSizes (encodedValues a)
+      go (Pair format B esb tried) e =
+          let h = encode-accepted u out format B esb tried e in
+          search (arith, format-fits format, h .first .scrambling, h .first .shaping, h .most)
+      go (NotEncoded refusal) e = search (arith, number-fits refusal, tried-fits refusal)
 
--- whatever read answers
-pub turn-fits : (w out o : List ℕ) (answer : ReadAnswer) → readOf w out ≡ outcome answer o → turnIn answer < 1024
-turn-fits w out o (Read reading) e = reading-fits w out o reading e .turn
-turn-fits w out o (NotRead refusal) e = omega arith
+  pub encode-back : ReadBack encodedSizes (encodedValues (encodeOf u out .answer))
+  encode-back = fits-back encodedSizes (encodedValues (encodeOf u out .answer)) encode-fits
+
+-- ---- check
+
+module _ (b : List ℕ) where
+  pub check-fits : Fits checkedSizes (checkedValues (checkOf b))
+  check-fits = go (checkOf b)
+    where
+      go : (a : Checked) → Fits checkedSizes (checkedValues a)
+      go (Proper format) = search (arith, format-fits format)
+      go (NotProper refusal) = search (arith, number-fits refusal)
+
+  pub check-back : ReadBack checkedSizes (checkedValues (checkOf b))
+  check-back = fits-back checkedSizes (checkedValues (checkOf b)) check-fits
+
+-- ---- read
+
+module _ (w out : List ℕ) where
+  reading-fits : (reading : Reading) → readOf w out .answer ≡ Read reading → Fits readSizes (0 ∷ readingValues reading)
+  reading-fits reading e =
+      let h = read-accepted w out reading e in
+      search (arith, format-fits (reading .format), flipped-fits (reading .flipped), telegram-size (reading .format), h .scrambling, h .turn)
+
+  pub read-fits : Fits readSizes (readValues (readOf w out .answer))
+  read-fits = go (readOf w out .answer) refl
+    where
+      go : (a : ReadAnswer) → readOf w out .answer ≡ a → Fits readSizes (readValues a)
+      go (Read reading) e = reading-fits reading e
+      go (NotRead refusal) e = search (arith, number-fits refusal)
+
+  pub read-back : ReadBack readSizes (readValues (readOf w out .answer))
+  read-back = fits-back readSizes (readValues (readOf w out .answer)) read-fits
 
 -- ---- search
 
--- the reading and the place that search finds
-pub found-fits : (s : List ℕ) (p : ℕ) (reading : Reading) → searchOf s ≡ Found p reading → ReadingFits reading × (p ≤ captureLimit)
-found-fits s p reading e =
-    let known = searches s .finds p reading .0 e in
-    let w = windowAt (reading .format) s p in
-    let reads = known .1 .here .reads zeros (zeros-room (reading .format)) in (
-      reading-fits w zeros (readOf w zeros .output) reading (ap (λ (a : ReadAnswer). outcome a (readOf w zeros .output)) reads),
-      omega (arith, known .0 .0, known .1 .here .fits),
-    )
+module _ (s : List ℕ) where
+  -- what is found is what read answers for a window, lent room
+  found-fits : (p : ℕ) (reading : Reading) → searchOf s ≡ Found p reading → Fits searchSizes (captureValues (Found p reading))
+  found-fits p reading e =
+      let (searched, first) = searches s .finds p reading .0 e in
+      let m = numbersOf (reading .format) .m in
+      let out : List ℕ = replicate m 0 in
+      let room : m ≤ length out = omega (arith, length-replicate {A = ℕ} m 0) in
+      let fits = reading-fits (windowAt (reading .format) s p) out reading (first .here .reads out room) in
+      let below : p < 65536 = omega (arith, searched .0, first .here .fits) in
+      search (fits, below)
 
--- whatever search answers
-pub search-fits : (s : List ℕ) (answer : Capture) → answer ≡ searchOf s → (turnFound answer < 1024) × (placeFound answer ≤ captureLimit)
-search-fits s (Found p reading) e =
-    let fits = found-fits s p reading (sym e) in
-    (fits .0 .turn, fits .1)
-search-fits s (NotFound refusal) e = (omega arith, omega arith)
+  pub search-fits : Fits searchSizes (captureValues (searchOf s))
+  search-fits = go (searchOf s) refl
+    where
+      go : (a : Capture) → searchOf s ≡ a → Fits searchSizes (captureValues a)
+      go (Found p reading) e = found-fits p reading e
+      go (NotFound refusal) e = search (arith, number-fits refusal)
+
+  pub search-back : ReadBack searchSizes (captureValues (searchOf s))
+  search-back = fits-back searchSizes (captureValues (searchOf s)) search-fits

@@ -1,63 +1,53 @@
--- The answer of each public call as one number: document 01's number of the refusal, 0 where there is none, then the values,
+-- The answer of each public call as one number: its values (document 01, "When the bench says no"), the number of the refusal first,
 -- each in a field of its own from the lowest binary digit up.
 -- Assumes nothing.
-use Prim.Native.Nat.{ℕ, _+_, _*_}
-use Rattle.formats.specs.Refused.{refusalNumber, triedCount}
-use Rattle.formats.specs.AnswerValues.{formatNumber, flippedNumber}
-use Rattle.encoder.specs.declared.Encoded.{Encoded}
-use Rattle.encoder.specs.declared.Encoded.the-variants.{Pair, Refused as NotEncoded}
-use Rattle.checker.specs.declared.Checked.{Checked}
-use Rattle.checker.specs.declared.Checked.the-variants.{Proper, Refused as NotProper}
-use Rattle.reader.specs.declared.ReadAnswer.{ReadAnswer}
-use Rattle.reader.specs.declared.ReadAnswer.the-variants.{Read, Refused as NotRead}
-use Rattle.captures.specs.declared.Capture.{Capture}
-use Rattle.captures.specs.declared.Capture.the-variants.{Found, Refused as NotFound}
+use Prim.Native.Nat.{ℕ, _+_, _*_, _/_, _%_, _<_}
+use mathlib.Core.Path.{_≡_}
+use mathlib.Core.List.{List, [], _∷_, _++_}
 
--- a field of `size` values, and the fields above it
-abbrev pub field : ℕ → ℕ → ℕ → ℕ
-field size value above = value + size * above
+-- `sizes` says how many values each field has, the lowest field first; a field without a value is 0
+abbrev pub packed : List ℕ → List ℕ → ℕ
+packed [] vs = 0
+packed (size ∷ sizes) [] = 0
+packed (size ∷ sizes) (v ∷ vs) = v + size * packed sizes vs
+
+-- ---- the fields of each answer
 
 -- bits 0 to 7 the number, 8 the format, 9 to 20 B, 21 to 30 esb, 31 to 53 the count of pairs tried
-abbrev pub encodedFields : ℕ → ℕ → ℕ → ℕ → ℕ → ℕ
-encodedFields number format B esb tried = field 256 number (field 2 format (field 4096 B (field 1024 esb tried)))
-
-abbrev pub encodedAsNumber : Encoded → ℕ
-encodedAsNumber (Pair format B esb tried) = encodedFields 0 (formatNumber format) B esb tried
-encodedAsNumber (NotEncoded refusal) = encodedFields (refusalNumber refusal) 0 0 0 (triedCount refusal)
+abbrev pub encodedSizes : List ℕ
+encodedSizes = 256 ∷ 2 ∷ 4096 ∷ 1024 ∷ 8388608 ∷ []
 
 -- bits 0 to 7 the number, 8 the format
-abbrev pub checkedAsNumber : Checked → ℕ
-checkedAsNumber (Proper format) = field 256 0 (formatNumber format)
-checkedAsNumber (NotProper refusal) = field 256 (refusalNumber refusal) 0
+abbrev pub checkedSizes : List ℕ
+checkedSizes = 256 ∷ 2 ∷ []
 
 -- bits 0 to 7 the number, 8 the format, 9 whether it was flipped, 10 to 21 B, 22 to 31 the turn
-abbrev pub readFields : ℕ → ℕ → ℕ → ℕ → ℕ → ℕ
-readFields number format flipped B turn = field 256 number (field 2 format (field 2 flipped (field 4096 B turn)))
+abbrev pub readSizes : List ℕ
+readSizes = 256 ∷ 2 ∷ 2 ∷ 4096 ∷ 1024 ∷ []
 
-abbrev pub readAsNumber : ReadAnswer → ℕ
-readAsNumber (Read reading) =
-    readFields 0 (formatNumber (reading .format)) (flippedNumber (reading .flipped)) (reading .scrambling) (reading .turn)
-readAsNumber (NotRead refusal) = readFields (refusalNumber refusal) 0 0 0 0
+-- those of a reading, and bits 32 to 47 the place
+abbrev pub searchSizes : List ℕ
+searchSizes = readSizes ++ (65536 ∷ [])
 
--- the turn that an answer has; 0 where it has none
-abbrev pub turnIn : ReadAnswer → ℕ
-turnIn (Read reading) = reading .turn
-turnIn (NotRead refusal) = 0
+-- ---- reading the fields back
 
--- bits 0 to 7 the number, 8 the format, 9 whether it was flipped, 10 to 21 B, 22 to 31 the turn, 32 to 47 the place
-abbrev pub searchFields : ℕ → ℕ → ℕ → ℕ → ℕ → ℕ → ℕ
-searchFields number format flipped B turn place = readFields number format flipped B (field 1024 turn place)
+-- what each field of a number holds, and last what is above the fields
+abbrev pub unpacked : List ℕ → ℕ → List ℕ
+unpacked [] x = x ∷ []
+unpacked (size ∷ sizes) x = x % size ∷ unpacked sizes (x / size)
 
-abbrev pub captureAsNumber : Capture → ℕ
-captureAsNumber (Found place reading) =
-    searchFields 0 (formatNumber (reading .format)) (flippedNumber (reading .flipped)) (reading .scrambling) (reading .turn) place
-captureAsNumber (NotFound refusal) = searchFields (refusalNumber refusal) 0 0 0 0 0
+-- there is a field for each value, and the value is below the field's size
+abbrev pub Fits : List ℕ → List ℕ → Type 0
+Fits sizes [] = Unit
+Fits [] (v ∷ vs) = ⊥
+Fits (size ∷ sizes) (v ∷ vs) = (v < size) × Fits sizes vs
 
--- the turn and the place that an answer has; 0 where it has none
-abbrev pub turnFound : Capture → ℕ
-turnFound (Found place reading) = reading .turn
-turnFound (NotFound refusal) = 0
+-- the values, then 0 for each field without one and 0 for what is above the fields
+abbrev pub filled : List ℕ → List ℕ → List ℕ
+filled [] vs = vs ++ (0 ∷ [])
+filled (size ∷ sizes) [] = 0 ∷ filled sizes []
+filled (size ∷ sizes) (v ∷ vs) = v ∷ filled sizes vs
 
-abbrev pub placeFound : Capture → ℕ
-placeFound (Found place reading) = place
-placeFound (NotFound refusal) = 0
+-- the fields of the number hold the values that it packs
+abbrev pub ReadBack : List ℕ → List ℕ → Type 0
+ReadBack sizes vs = unpacked sizes (packed sizes vs) ≡ filled sizes vs

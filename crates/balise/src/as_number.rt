@@ -1,15 +1,19 @@
-// The answers of the public calls as numbers.
+// The answers of the public calls as numbers: their values, packed.
 ghost use mathlib.Core.Path.{_≡_};
-ghost use Prim.Native.Nat.{_≤_, _<_};
-ghost use Rattle.formats.specs.AnswerValues.{formatNumber, flippedNumber};
-ghost use Rattle.captures.specs.Captures.{captureLimit};
-ghost use Rattle.balise.specs.AsNumber.{encodedFields, readFields, searchFields, encodedAsNumber, checkedAsNumber, readAsNumber, captureAsNumber, turnIn, turnFound, placeFound};
+ghost use mathlib.Core.List.{[], _∷_};
+ghost use Rattle.refusals.specs.AnswerValues.{formatNumber, flippedNumber};
+ghost use Rattle.encoder.specs.Encoding.{encodedValues};
+ghost use Rattle.checker.specs.Checking.{checkedValues};
+ghost use Rattle.reader.specs.Reads.{readValues};
+ghost use Rattle.captures.specs.declared.Capture.the-variants.{Found};
+ghost use Rattle.captures.specs.Captures.{captureValues};
+ghost use Rattle.balise.specs.AsNumber.{packed, encodedSizes, checkedSizes, readSizes, searchSizes, Fits};
 use captures::Capture;
 use checker::Checked;
 use encoder::Encoded;
 use formats::format::Format;
-use formats::refusal;
 use reader::ReadAnswer;
+use reader::Reading;
 
 // The format: 0 long, 1 short.
 fn format_number(format: Format) -> u8
@@ -30,35 +34,29 @@ fn flipped_number(flipped: bool) -> u8
 
 // The fields of the encoder's answer.
 fn encoded_fields(number: u8, format: u8, b: u16, esb: u16, tried: u32) -> u64
-    ensures { λ r. ⌜ r ≡ encodedFields number format b esb tried ⌝ }
+    ensures { λ r. ⌜ r ≡ packed encodedSizes (number ∷ format ∷ b ∷ esb ∷ tried ∷ []) ⌝ }
 {
     let shaping = esb as u64 + 1024 * (tried as u64);
     let scrambling = b as u64 + 4096 * shaping;
     number as u64 + 256 * (format as u64 + 2 * scrambling)
 }
 
-// The fields of the reader's answer.
-fn read_fields(number: u8, format: u8, flipped: u8, b: u16, turn: usize) -> u64
-    requires { ⌜ turn < 1024 ⌝ }
-    ensures { λ r. ⌜ r ≡ readFields number format flipped b turn ⌝ }
+// The fields of a reading, found at the place.
+fn found_fields(reading: Reading, place: usize) -> u64
+    requires { ⌜ Fits searchSizes (captureValues (Found place reading)) ⌝ }
+    ensures { λ r. ⌜ r ≡ packed searchSizes (captureValues (Found place reading)) ⌝ }
 {
-    let scrambling = b as u64 + 4096 * (turn as u64);
-    number as u64 + 256 * (format as u64 + 2 * (flipped as u64 + 2 * scrambling))
-}
-
-// The fields of the search's answer.
-fn search_fields(format: u8, flipped: u8, b: u16, turn: usize, place: usize) -> u64
-    requires { ⌜ turn < 1024 ⌝ }
-    requires { ⌜ place ≤ captureLimit ⌝ }
-    ensures { λ r. ⌜ r ≡ searchFields 0 format flipped b turn place ⌝ }
-{
+    let format = reading.format;
+    let flipped = reading.flipped;
+    let b = reading.scrambling;
+    let turn = reading.turn;
     let above = turn as u64 + 1024 * (place as u64);
     let scrambling = b as u64 + 4096 * above;
-    256 * (format as u64 + 2 * (flipped as u64 + 2 * scrambling))
+    256 * (format_number(format) as u64 + 2 * (flipped_number(flipped) as u64 + 2 * scrambling))
 }
 
 pub fn encoded(answer: Encoded) -> u64
-    ensures { λ r. ⌜ r ≡ encodedAsNumber answer ⌝ }
+    ensures { λ r. ⌜ r ≡ packed encodedSizes (encodedValues answer) ⌝ }
 {
     match answer {
         Encoded::Pair {
@@ -68,61 +66,39 @@ pub fn encoded(answer: Encoded) -> u64
             tried,
         } => encoded_fields(0, format_number(format), scrambling, shaping, tried),
         Encoded::Refused(refusal) => {
-            encoded_fields(refusal::number(refusal), 0, 0, 0, refusal::tried(refusal))
+            let number = refusals::number(refusal);
+            let tried = refusals::tried(refusal);
+            encoded_fields(number, 0, 0, 0, tried)
         }
     }
 }
 
 pub fn checked(answer: Checked) -> u64
-    ensures { λ r. ⌜ r ≡ checkedAsNumber answer ⌝ }
+    ensures { λ r. ⌜ r ≡ packed checkedSizes (checkedValues answer) ⌝ }
 {
     match answer {
         Checked::Proper(format) => 256 * (format_number(format) as u64),
-        Checked::Refused(refusal) => refusal::number(refusal) as u64,
+        Checked::Refused(refusal) => refusals::number(refusal) as u64,
     }
 }
 
+// A reading has the fields of one that was found at place 0.
 pub fn read(answer: ReadAnswer) -> u64
-    requires { ⌜ turnIn answer < 1024 ⌝ }
-    ensures { λ r. ⌜ r ≡ readAsNumber answer ⌝ }
+    requires { ⌜ Fits readSizes (readValues answer) ⌝ }
+    ensures { λ r. ⌜ r ≡ packed readSizes (readValues answer) ⌝ }
 {
     match answer {
-        ReadAnswer::Read(reading) => {
-            let format = reading.format;
-            let flipped = reading.flipped;
-            let bits = reading.scrambling;
-            let turn = reading.turn;
-            read_fields(
-                0,
-                format_number(format),
-                flipped_number(flipped),
-                bits,
-                turn,
-            )
-        }
-        ReadAnswer::Refused(refusal) => refusal::number(refusal) as u64,
+        ReadAnswer::Read(reading) => found_fields(reading, 0),
+        ReadAnswer::Refused(refusal) => refusals::number(refusal) as u64,
     }
 }
 
 pub fn searched(answer: Capture) -> u64
-    requires { ⌜ turnFound answer < 1024 ⌝ }
-    requires { ⌜ placeFound answer ≤ captureLimit ⌝ }
-    ensures { λ r. ⌜ r ≡ captureAsNumber answer ⌝ }
+    requires { ⌜ Fits searchSizes (captureValues answer) ⌝ }
+    ensures { λ r. ⌜ r ≡ packed searchSizes (captureValues answer) ⌝ }
 {
     match answer {
-        Capture::Found { place, reading } => {
-            let format = reading.format;
-            let flipped = reading.flipped;
-            let bits = reading.scrambling;
-            let turn = reading.turn;
-            search_fields(
-                format_number(format),
-                flipped_number(flipped),
-                bits,
-                turn,
-                place,
-            )
-        }
-        Capture::Refused(refusal) => refusal::number(refusal) as u64,
+        Capture::Found { place, reading } => found_fields(reading, place),
+        Capture::Refused(refusal) => refusals::number(refusal) as u64,
     }
 }

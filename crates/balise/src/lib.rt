@@ -1,18 +1,18 @@
-// The public calls for a caller in another language. A call answers one number, whose fields specs/AsNumber.antt gives,
-// and asks nothing of what it is given.
+// The public calls for a caller in another language. A call answers one number, the values of its answer packed into the fields
+// that specs/AsNumber.antt gives, and asks nothing of what it is given.
 ghost use mathlib.Core.Path.{_≡_};
-ghost use Rattle.encoder.specs.Encoding.{encodeOf};
-ghost use Rattle.checker.specs.Checking.{checkOf};
-ghost use Rattle.reader.specs.Reads.{readOf};
-ghost use Rattle.captures.specs.Captures.{searchOf};
-ghost use Rattle.balise.specs.AsNumber.{encodedAsNumber, checkedAsNumber, readAsNumber, captureAsNumber};
+ghost use Rattle.encoder.specs.Encoding.{encodedValues, encodeOf};
+ghost use Rattle.checker.specs.Checking.{checkedValues, checkOf};
+ghost use Rattle.reader.specs.Reads.{readValues, readOf};
+ghost use Rattle.captures.specs.Captures.{captureValues, searchOf};
+ghost use Rattle.balise.specs.AsNumber.{packed, encodedSizes, checkedSizes, readSizes, searchSizes};
 
 mod as_number;
 
 // Encodes a block: its telegram over the front of output. A refusal keeps every byte of output.
 #[no_mangle]
 pub extern "C" fn balise_encode(block: &[u8], output: &mut [u8]) -> u64
-    ensures answers { λ r. ⌜ r ≡ encodedAsNumber (encodeOf (now (block .entry)) (now (output .entry)) .answer) ⌝ }
+    ensures answers { λ r. ⌜ r ≡ packed encodedSizes (encodedValues (encodeOf (now (block .entry)) (now (output .entry)) .answer)) ⌝ }
     ensures writes { λ _. ⌜ now (output .exit) ≡ encodeOf (now (block .entry)) (now (output .entry)) .output ⌝ }
 {
     let answer = encoder::encode(block, output);
@@ -22,7 +22,7 @@ pub extern "C" fn balise_encode(block: &[u8], output: &mut [u8]) -> u64
 // Checks a telegram.
 #[no_mangle]
 pub extern "C" fn balise_check(telegram: &[u8]) -> u64
-    ensures { λ r. ⌜ r ≡ checkedAsNumber (checkOf (now (telegram .entry))) ⌝ }
+    ensures { λ r. ⌜ r ≡ packed checkedSizes (checkedValues (checkOf (now (telegram .entry)))) ⌝ }
 {
     let answer = checker::check(telegram);
     as_number::checked(answer)
@@ -31,7 +31,7 @@ pub extern "C" fn balise_check(telegram: &[u8]) -> u64
 // Reads a window: its user bits over the front of output. A refusal keeps every byte of output.
 #[no_mangle]
 pub extern "C" fn balise_read(window: &[u8], output: &mut [u8]) -> u64
-    ensures answers { λ r. ⌜ r ≡ readAsNumber (readOf (now (window .entry)) (now (output .entry)) .answer) ⌝ }
+    ensures answers { λ r. ⌜ r ≡ packed readSizes (readValues (readOf (now (window .entry)) (now (output .entry)) .answer)) ⌝ }
     ensures writes { λ _. ⌜ now (output .exit) ≡ readOf (now (window .entry)) (now (output .entry)) .output ⌝ }
 {
     let answer = reader::read(window, output);
@@ -41,7 +41,7 @@ pub extern "C" fn balise_read(window: &[u8], output: &mut [u8]) -> u64
 // Searches a capture for the first window that reads.
 #[no_mangle]
 pub extern "C" fn balise_search(capture: &[u8]) -> u64
-    ensures { λ r. ⌜ r ≡ captureAsNumber (searchOf (now (capture .entry))) ⌝ }
+    ensures { λ r. ⌜ r ≡ packed searchSizes (captureValues (searchOf (now (capture .entry)))) ⌝ }
 {
     let answer = captures::search(capture);
     as_number::searched(answer)

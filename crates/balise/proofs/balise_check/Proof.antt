@@ -1,18 +1,14 @@
 -- `balise::balise_check` meets its contract, by that of `checker::check`. Assumes nothing.
 use mathlib.Core.Path.{ap, _∙_}
 use borrow.Author.Needs.{needs}
-use Rattle.balise.specs.AsNumber.{checkedAsNumber}
+use Rattle.checker.specs.declared.Checked.{Checked}
+use Rattle.checker.specs.Checking.{checkedValues}
+use Rattle.balise.specs.AsNumber.{packed, checkedSizes}
 use Rattle.balise.proofs.balise_check.Statement.{statement}
 use Rattle.balise.proofs.balise_check.Tie as tie
 
-check-requires : tie.Need-check-requires
-check-requires c κs = search needs
-
-checked-requires : tie.Need-checked-requires
-checked-requires c κs = search needs
-
 returns : tie.Need-returns
-returns c = c .checked .ensures ∙ ap checkedAsNumber (c .before .check .ensures .0)
+returns c = c .checked .ensures ∙ ap (λ (a : Checked). packed checkedSizes (checkedValues a)) (c .before .check .ensures)
 
 pub balise-check-spec : {M : Type 1} → statement M
-balise-check-spec = tie.close (tie.spec check-requires checked-requires returns)
+balise-check-spec = tie.close (tie.spec (λ c κs. search needs) (λ c κs. search needs) returns)

@@ -1,48 +1,32 @@
 -- `balise::as_number::read` meets its contract, case by case. Assumes nothing.
-use mathlib.Core.Path.{ap}
+use Prim.Native.Nat.{ℕ}
+use mathlib.Core.Path.{ap, subst}
 use native.Mathlib.Omega.{arith}
 use borrow.Author.Needs.{needs}
-use Rattle.balise.specs.AsNumber.{readAsNumber, turnIn}
+use Rattle.reader.specs.declared.ReadAnswer.{ReadAnswer}
+use Rattle.reader.specs.Reads.{readValues}
+use Rattle.balise.specs.AsNumber.{packed, readSizes, Fits}
 use Rattle.balise.proofs.as_number.read.Statement.{statement}
 use Rattle.balise.proofs.as_number.read.Tie as tie
 
-enum-known-answer : tie.Need-enum-known-answer
-enum-known-answer c = search needs
+abbrev number : ReadAnswer → ℕ
+number a = packed readSizes (readValues a)
 
-format-number-requires : tie.Need-format-number-requires
-format-number-requires c κs = search needs
-
-flipped-number-requires : tie.Need-flipped-number-requires
-flipped-number-requires c κs = search needs
-
-read-fields-requires : tie.Need-read-fields-requires
-read-fields-requires c κs = omega (arith, ap turnIn (c .before .before .before .answer .given .1))
-
-enum-known-answer-2 : tie.Need-enum-known-answer-2
-enum-known-answer-2 c = search needs
-
-number-requires : tie.Need-number-requires
-number-requires c κs = search needs
-
-cast-result : tie.Need-cast-result
-cast-result c = search needs
+found-fields-requires : tie.Need-found-fields-requires
+found-fields-requires c κs =
+    let fits = subst (λ (a : ReadAnswer). Fits readSizes (readValues a)) (c .before .answer .given .1) (c .before .before .before .pre) in
+    search (arith, fits)
 
 returns : tie.Need-returns
-returns c = omega (arith, ap readAsNumber (c .before .before .before .before .answer .given .1))
+returns c = omega (arith, ap number (c .before .before .answer .given .1))
 
 returns-2 : tie.Need-returns-2
-returns-2 c = omega (arith, ap readAsNumber (c .before .before .answer2 .given .1))
+returns-2 c = omega (arith, ap number (c .before .before .answer2 .given .1))
 
 pub read-spec : {M : Type 1} → statement M
 read-spec =
     tie.close
     (tie.spec
-    enum-known-answer
-    format-number-requires
-    flipped-number-requires
-    read-fields-requires
-    enum-known-answer-2
-    number-requires
-    cast-result
-    returns
-    returns-2)
+    (λ c. search needs) found-fields-requires
+    (λ c. search needs) (λ c κs. search needs) (λ c. search needs)
+    returns returns-2)
