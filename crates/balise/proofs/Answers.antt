@@ -11,9 +11,9 @@ use Rattle.formats.specs.declared.format.Format.{Format}
 use Rattle.formats.specs.declared.format.Format.the-variants.{Long, Short}
 use Rattle.formats.specs.Numbers.{numbersOf}
 use Rattle.refusals.specs.declared.Refusal.{Refusal}
-use Rattle.refusals.specs.declared.Refusal.the-variants.{Length, NotBit, OutputShort, NoPair, EndsDiffer, NotDivisible, NoTurn, Control, NotWord, OffStep, Repeating, Thinned, NoPlace}
 use Rattle.refusals.specs.Refused.{pairCount, refusalNumber, triedCount}
 use Rattle.refusals.specs.AnswerValues.{formatNumber, flippedNumber}
+use Rattle.refusals.proofs.Numbers.{number-fits}
 use Rattle.encoder.specs.declared.Encoded.{Encoded}
 use Rattle.encoder.specs.declared.Encoded.the-variants.{Pair, Refused as NotEncoded}
 use Rattle.encoder.specs.Encoding.{encodedValues, encodeOf}
@@ -47,22 +47,6 @@ flipped-fits false = omega arith
 telegram-size : (format : Format) → numbersOf format .n < 1024
 telegram-size Long = omega arith
 telegram-size Short = omega arith
-
--- a refusal's number is not 0, which stands for none, and fits its field
-pub number-fits : (refusal : Refusal) → (1 ≤ refusalNumber refusal) × (refusalNumber refusal < 256)
-number-fits Length = (omega arith, omega arith)
-number-fits NotBit = (omega arith, omega arith)
-number-fits OutputShort = (omega arith, omega arith)
-number-fits NoPair = (omega arith, omega arith)
-number-fits EndsDiffer = (omega arith, omega arith)
-number-fits NotDivisible = (omega arith, omega arith)
-number-fits NoTurn = (omega arith, omega arith)
-number-fits Control = (omega arith, omega arith)
-number-fits NotWord = (omega arith, omega arith)
-number-fits OffStep = (omega arith, omega arith)
-number-fits Repeating = (omega arith, omega arith)
-number-fits Thinned = (omega arith, omega arith)
-number-fits NoPlace = (omega arith, omega arith)
 
 tried-fits : (refusal : Refusal) → triedCount refusal < 8388608
 tried-fits refusal = go (eqb (refusalNumber refusal) 4)

@@ -25,7 +25,7 @@
 //!
 //! That the declarations are those of crates/balise/src/lib.rt, the fields those
 //! of crates/balise/specs/AsNumber.antt, and the numbers of the refusals those of
-//! crates/formats/specs/Refused.antt, is tested and not proved. include/balise.h
+//! crates/refusals/specs/Refused.antt, is tested and not proved. include/balise.h
 //! declares the same for C.
 
 mod format;
