@@ -101,7 +101,7 @@ pub extern "C" fn balise_layers_in_group_20(word: u16) -> bool
 
 // Scrambles a block into the front of out.
 #[no_mangle]
-pub extern "C" fn balise_layers_scramble(b: u32, block: &[u8], out: &mut [u8])
+pub extern "C" fn balise_layers_scramble(b: u16, block: &[u8], out: &mut [u8])
     requires { ⌜ T (allBits (now block)) ⌝ }
     requires { ⌜ length (now block) ≤ length (now out) ⌝ }
     ensures { λ _. ⌜ now (out .exit) ≡ scrambled b (now (block .entry)) ++ drop (length (now (block .entry))) (now (out .entry)) ⌝ }
@@ -111,7 +111,7 @@ pub extern "C" fn balise_layers_scramble(b: u32, block: &[u8], out: &mut [u8])
 
 // Descrambles a block into the front of out.
 #[no_mangle]
-pub extern "C" fn balise_layers_descramble(b: u32, block: &[u8], out: &mut [u8])
+pub extern "C" fn balise_layers_descramble(b: u16, block: &[u8], out: &mut [u8])
     requires { ⌜ T (allBits (now block)) ⌝ }
     requires { ⌜ length (now block) ≤ length (now out) ⌝ }
     ensures { λ _. ⌜ now (out .exit) ≡ descrambled b (now (block .entry)) ++ drop (length (now (block .entry))) (now (out .entry)) ⌝ }

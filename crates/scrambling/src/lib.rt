@@ -20,7 +20,7 @@ pub struct Scrambler {
 
 impl Scrambler {
     // The register at its start, for the scrambling bits b.
-    pub fn new(b: u32) -> Self
+    pub fn new(b: u16) -> Self
         ensures { λ r. ⌜ r .state ≡ seedOf b ⌝ }
     {
         let product = 2801775573 * (b as u64);
@@ -53,7 +53,7 @@ impl Scrambler {
 }
 
 // Scrambles a block of user bits into the front of out; the rest of out is kept.
-pub fn scramble(b: u32, block: &[u8], out: &mut [u8])
+pub fn scramble(b: u16, block: &[u8], out: &mut [u8])
     requires { ⌜ T (allBits (now block)) ⌝ }
     requires { ⌜ length (now block) ≤ length (now out) ⌝ }
     ensures { λ _. ⌜ now (out .exit) ≡ scrambled b (now (block .entry)) ++ drop (length (now (block .entry))) (now (out .entry)) ⌝ }
@@ -70,7 +70,7 @@ pub fn scramble(b: u32, block: &[u8], out: &mut [u8])
 }
 
 // Descrambles a block of scrambled bits into the front of out; the rest of out is kept.
-pub fn descramble(b: u32, block: &[u8], out: &mut [u8])
+pub fn descramble(b: u16, block: &[u8], out: &mut [u8])
     requires { ⌜ T (allBits (now block)) ⌝ }
     requires { ⌜ length (now block) ≤ length (now out) ⌝ }
     ensures { λ _. ⌜ now (out .exit) ≡ descrambled b (now (block .entry)) ++ drop (length (now (block .entry))) (now (out .entry)) ⌝ }

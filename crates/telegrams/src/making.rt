@@ -52,7 +52,7 @@ pub fn write_shaped_data(format: Format, summed: &[u8], b: u16, telegram: &mut [
     ensures { λ _. ⌜ now (telegram .exit) ≡ shaped (blocks (numbersOf format)) (scrambled b (now (summed .entry))) ++ drop (11 * blocks (numbersOf format)) (now (telegram .entry)) ⌝ }
 {
     let mut scrambled = [0u8; Long::M];
-    scrambling::scramble(b as u32, summed, &mut scrambled);
+    scrambling::scramble(b, summed, &mut scrambled);
     shape(&scrambled, summed.len() / 10, telegram);
 }
 

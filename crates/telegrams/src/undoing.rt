@@ -46,7 +46,7 @@ pub fn write_user_bits(b: u16, scrambled: &[u8], output: &mut [u8])
     requires { ⌜ length (now scrambled) ≤ length (now output) ⌝ }
     ensures { λ _. ⌜ now (output .exit) ≡ withoutSum (length (now (scrambled .entry)) / 10) (descrambled b (now (scrambled .entry))) ++ drop (length (now (scrambled .entry))) (now (output .entry)) ⌝ }
 {
-    scrambling::descramble(b as u32, scrambled, output);
+    scrambling::descramble(b, scrambled, output);
     let m = scrambled.len();
     scrambling::remove_sum(&mut output[..m]);
 }

@@ -59,7 +59,7 @@ fn scrambling_row(blocks: &[Vec<u8>]) {
     let mut plain_out = out;
     let ours = |i| {
         for (b, block) in set(blocks, i).iter().enumerate() {
-            layers::scramble(black_box(b as u32), black_box(block), &mut out);
+            layers::scramble(black_box(b as u16), black_box(block), &mut out);
             black_box(&out);
         }
     };

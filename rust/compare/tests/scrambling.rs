@@ -8,15 +8,11 @@ use second::scrambling;
 use second::telegram::{b_of, B_VALUES};
 
 fn scramble(random: &mut Random, b: u16, block: &[u8]) -> Vec<u8> {
-    written(random, block.len(), |out| {
-        layers::scramble(b.into(), block, out)
-    })
+    written(random, block.len(), |out| layers::scramble(b, block, out))
 }
 
 fn descramble(random: &mut Random, b: u16, block: &[u8]) -> Vec<u8> {
-    written(random, block.len(), |out| {
-        layers::descramble(b.into(), block, out)
-    })
+    written(random, block.len(), |out| layers::descramble(b, block, out))
 }
 
 fn add_sum(block: &[u8]) -> Vec<u8> {

@@ -14,14 +14,14 @@ mod exported {
         pub fn balise_layers_in_group_250(word: u16) -> bool;
         pub fn balise_layers_in_group_20(word: u16) -> bool;
         pub fn balise_layers_scramble(
-            b: u32,
+            b: u16,
             block: *const u8,
             block_len: usize,
             out: *mut u8,
             out_len: usize,
         );
         pub fn balise_layers_descramble(
-            b: u32,
+            b: u16,
             block: *const u8,
             block_len: usize,
             out: *mut u8,
@@ -146,7 +146,7 @@ pub fn in_group_20(word: u16) -> bool {
 }
 
 /// Scrambles a block into the front of `out`.
-pub fn scramble(b: u32, block: &[u8], out: &mut [u8]) {
+pub fn scramble(b: u16, block: &[u8], out: &mut [u8]) {
     require_bits(block);
     require_room(out, block.len());
     // SAFETY: the pointers and lengths are those of slices that do not
@@ -163,7 +163,7 @@ pub fn scramble(b: u32, block: &[u8], out: &mut [u8]) {
 }
 
 /// Descrambles a block into the front of `out`.
-pub fn descramble(b: u32, block: &[u8], out: &mut [u8]) {
+pub fn descramble(b: u16, block: &[u8], out: &mut [u8]) {
     require_bits(block);
     require_room(out, block.len());
     // SAFETY: as above.
