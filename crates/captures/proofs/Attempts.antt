@@ -12,8 +12,8 @@ use Rattle.refusals.specs.declared.Refusal.{Refusal}
 use Rattle.refusals.specs.Outcome.{Outcome, outcome}
 use Rattle.reader.specs.declared.Reading.{Reading}
 use Rattle.reader.specs.declared.ReadAnswer.the-variants.{Read, Refused}
-use Rattle.reader.specs.Reads.{readingIn, userBitsIn, readAs}
-use Rattle.reader.proofs.Laws.{reads-size, answered-read, answered-refused}
+use Rattle.reader.specs.Reads.{endsAgree, readingIn, userBitsIn, readAs}
+use Rattle.reader.proofs.Laws.{reads-size, ends-unread, answered-read, answered-refused}
 use Rattle.captures.specs.declared.Tried.{Tried}
 use Rattle.captures.specs.declared.Tried.the-variants.{Reads, Nothing}
 use Rattle.captures.specs.Captures.{windowAt, acceptsAs}
@@ -37,6 +37,10 @@ module _ (format : Format) (s : List ℕ) (p : ℕ) (out : List ℕ) where
   unfolding acceptsAs
   empty-tried e =
       tried-no (is-false (acceptsAs format s p) (λ t. absurd (omega (arith, e, reads-size format (windowAt format s p) t, window-least format))))
+
+  pub differing-tried : endsAgree (numbersOf format) (windowAt format s p) ≡ false → attemptOf format s p out ≡ outcome Nothing out
+  unfolding acceptsAs
+  differing-tried e = tried-no (ends-unread format (windowAt format s p) e)
 
   pub refused-tried : (r : Refusal) (o : List ℕ) → numbersOf format .m ≤ length out
       → readAs format (windowAt format s p) out ≡ outcome (Refused r) o → attemptOf format s p out ≡ outcome Nothing o

@@ -46,7 +46,8 @@ pub fn window_at(format: Format, capture: &[u8], place: usize) -> &[u8]
     &capture[place..end]
 }
 
-// One try: reads the format's window at the place of a capture whose bytes are known to be bits.
+// One try: reads the format's window at the place of a capture whose bytes are known to be bits. The ends are tested first: a place
+// whose ends differ costs a few comparisons.
 fn attempt(format: Format, capture: &[u8], place: usize, output: &mut [u8]) -> Tried
     requires { ⌜ T (allBits (now capture)) ⌝ }
     requires { ⌜ numbersOf format .m ≤ length (now output) ⌝ }
@@ -54,6 +55,9 @@ fn attempt(format: Format, capture: &[u8], place: usize, output: &mut [u8]) -> T
 {
     let window = window_at(format, capture, place);
     if window.len() == 0 {
+        return Tried::Nothing;
+    }
+    if !tested::ends_agree(format, window) {
         return Tried::Nothing;
     }
     let answer = tested::read_bits(format, window, output);
