@@ -10,6 +10,7 @@ use lib.ListN.{length, replicate, length-replicate}
 use Rattle.formats.specs.declared.format.Format.{Format}
 use Rattle.formats.specs.declared.format.Format.the-variants.{Long, Short}
 use Rattle.formats.specs.Numbers.{numbersOf}
+use Rattle.formats.proofs.Sizes.{telegram-between}
 use Rattle.refusals.specs.declared.Refusal.{Refusal}
 use Rattle.refusals.specs.Refused.{pairCount, refusalNumber, triedCount}
 use Rattle.refusals.specs.AnswerValues.{formatNumber, flippedNumber}
@@ -42,11 +43,6 @@ format-fits Short = omega arith
 flipped-fits : (flipped : Bool) → flippedNumber flipped < 2
 flipped-fits true = omega arith
 flipped-fits false = omega arith
-
--- a telegram has fewer bits than the turn's field has values
-telegram-size : (format : Format) → numbersOf format .n < 1024
-telegram-size Long = omega arith
-telegram-size Short = omega arith
 
 tried-fits : (refusal : Refusal) → triedCount refusal < 8388608
 tried-fits refusal = go (eqb (refusalNumber refusal) 4)
@@ -89,7 +85,7 @@ module _ (w out : List ℕ) where
   reading-fits : (reading : Reading) → readOf w out .answer ≡ Read reading → Fits readSizes (0 ∷ readingValues reading)
   reading-fits reading e =
       let h = read-accepted w out reading e in
-      search (arith, format-fits (reading .format), flipped-fits (reading .flipped), telegram-size (reading .format), h .scrambling, h .turn)
+      search (arith, format-fits (reading .format), flipped-fits (reading .flipped), telegram-between (reading .format), h .scrambling, h .turn)
 
   pub read-fits : Fits readSizes (readValues (readOf w out .answer))
   read-fits = go (readOf w out .answer) refl

@@ -8,6 +8,7 @@ use lib.ListN.{length, drop}
 use Rattle.bits.proofs.Tests.{clash, is-true, is-false}
 use Rattle.formats.specs.declared.format.Format.{Format}
 use Rattle.formats.specs.Numbers.{numbersOf}
+use Rattle.formats.proofs.Sizes.{window-between}
 use Rattle.refusals.specs.declared.Refusal.{Refusal}
 use Rattle.refusals.specs.Outcome.{Outcome, outcome}
 use Rattle.reader.specs.declared.Reading.{Reading}
@@ -18,7 +19,6 @@ use Rattle.captures.specs.declared.Tried.{Tried}
 use Rattle.captures.specs.declared.Tried.the-variants.{Reads, Nothing}
 use Rattle.captures.specs.Captures.{windowAt, acceptsAs}
 use Rattle.captures.specs.Attempts.{attemptOf}
-use Rattle.captures.proofs.Places.{window-least}
 
 module _ (format : Format) (s : List ℕ) (p : ℕ) (out : List ℕ) where
   tried-no : acceptsAs format s p ≡ false → attemptOf format s p out ≡ outcome Nothing out
@@ -36,7 +36,7 @@ module _ (format : Format) (s : List ℕ) (p : ℕ) (out : List ℕ) where
   pub empty-tried : length (windowAt format s p) ≡ 0 → attemptOf format s p out ≡ outcome Nothing out
   unfolding acceptsAs
   empty-tried e =
-      tried-no (is-false (acceptsAs format s p) (λ t. absurd (omega (arith, e, reads-size format (windowAt format s p) t, window-least format))))
+      tried-no (is-false (acceptsAs format s p) (λ t. absurd (omega (arith, e, reads-size format (windowAt format s p) t, window-between format))))
 
   pub differing-tried : endsAgree (numbersOf format) (windowAt format s p) ≡ false → attemptOf format s p out ≡ outcome Nothing out
   unfolding acceptsAs

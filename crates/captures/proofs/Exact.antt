@@ -16,6 +16,7 @@ use Rattle.bits.proofs.Tests.{clash, holds, is-true, is-false}
 use Rattle.formats.specs.declared.format.Format.{Format}
 use Rattle.formats.specs.declared.format.Format.the-variants.{Long, Short}
 use Rattle.formats.specs.Numbers.{long, numbersOf, windowBits}
+use Rattle.formats.proofs.Sizes.{window-between, block-between}
 use Rattle.refusals.specs.declared.Refusal.{Refusal}
 use Rattle.refusals.specs.declared.Refusal.the-variants.{NoPlace}
 use Rattle.refusals.specs.Refused.{refusalNumber}
@@ -32,7 +33,7 @@ use Rattle.captures.specs.declared.Capture.the-variants.{Found, Refused}
 use Rattle.captures.specs.Captures.{captureLimit, windowAt, acceptsAs, acceptsAt, firstPlace, formatAt, foundAt, foundOut, searchTable, searchOf, stretchAs, stretchOf, searchReadTable, searchReadOf}
 use Rattle.captures.specs.Attempts.{outFound}
 use Rattle.captures.specs.FirstPlace.{ReadsAt, FirstPlace, NoneAccepts, Searched, Searches, SearchReads}
-use Rattle.captures.proofs.Places.{window-least, block-most, window-there, window-length, accepts-fits, long-there, short-there, neither-there, found-there, Passed}
+use Rattle.captures.proofs.Places.{window-there, window-length, accepts-fits, long-there, short-there, neither-there, found-there, Passed}
 use Rattle.captures.proofs.Found.{found-as, out-as}
 use Rattle.captures.proofs.Steps.{search-decided, by-place, same-answer}
 use Rattle.captures.proofs.Accepting.{accepts-reads, reads-accepts, not-accepted, accepted-not, format-accepts, none-accepts}
@@ -145,7 +146,7 @@ module _ (s : List ℕ) where
       let (at, is) = as-format (reading .format) refl (is-true (acceptsAs (reading .format) s p) accepts) in
       let earlier : Passed s p =
       λ (j : ℕ) (below : j < p). neither-there s j (accepted-not Long s j (h .earlier j below Long)) (accepted-not Short s j (h .earlier j below Short)) in
-      let first = found-there s p earlier at (omega (arith, h .here .fits, window-least (reading .format))) in
+      let first = found-there s p earlier at (omega (arith, h .here .fits, window-between (reading .format))) in
       search-decided s accepted
       (searched-passed searched (passed (ap isFound first) all-passed))
       ∙ ap (λ (x : First). foundAt s (whichFound x)) first
@@ -175,7 +176,7 @@ module _ (s : List ℕ) where
   missing-none : T (not (isFound (firstPlace s))) → NoneAccepts s
   unfolding firstPlace
   missing-none h p format reading reads =
-      let below : p < length s = omega (arith, reads .fits, window-least format) in
+      let below : p < length s = omega (arith, reads .fits, window-between format) in
       not-accepted format s p (none-accepts s p (first-missing (acceptsAt s) 0 (length s) (nothing-found (firstPlace s) refl h) p (omega arith) (omega arith)) format) reading reads
 
   row-tells : FirstApplies (searchTable s) NoPlace → Searched s × NoneAccepts s
@@ -254,7 +255,7 @@ module _ (s out : List ℕ) where
       let there = by-place s out (h .within) (is-true (allBits s) (h .bits)) room ∙ ap (outFound s out) (h .first) ∙ out-as s p out format refl in
       ap (λ (x : Outcome Capture). x .output) there
       ∙ sym (ap (λ (w : List ℕ). readOf w out .output) stretch
-      ∙ ap (λ (x : Outcome ReadAnswer). x .output) (stretch-read p format (h .accepts) (omega (arith, block-most format))))
+      ∙ ap (λ (x : Outcome ReadAnswer). x .output) (stretch-read p format (h .accepts) (omega (arith, block-between format))))
 
   pub search-reads : SearchReads s out
   search-reads = record { refuses = read-refuses; answers = same-answer s out; writes = read-writes; keeps = read-keeps }

@@ -11,6 +11,7 @@ use Rattle.bits.proofs.Tests.{holds}
 use Rattle.formats.specs.declared.format.Format.{Format}
 use Rattle.formats.specs.declared.format.Format.the-variants.{Long, Short}
 use Rattle.formats.specs.Numbers.{short, numbersOf, windowBits}
+use Rattle.formats.proofs.Sizes.{window-between}
 use Rattle.refusals.specs.declared.Refusal.the-variants.{NoPlace}
 use Rattle.refusals.specs.Outcome.{outcome}
 use Rattle.reader.specs.declared.Reading.{Reading}
@@ -19,7 +20,7 @@ use Rattle.captures.specs.declared.Tried.the-variants.{Reads, Nothing}
 use Rattle.captures.specs.declared.Capture.the-variants.{Found, Refused}
 use Rattle.captures.specs.Captures.{windowAt, acceptsAs, acceptsAt, firstPlace, formatAt, windowFound, foundAt, foundOut}
 use Rattle.captures.specs.Attempts.{attemptOf, outFound}
-use Rattle.captures.proofs.Places.{window-least, accepts-fits, long-there, short-there, neither-there, Passed, found-there, none-there}
+use Rattle.captures.proofs.Places.{accepts-fits, long-there, short-there, neither-there, Passed, found-there, none-there}
 use Rattle.captures.proofs.Attempts.{tried-reads, tried-nothing}
 
 -- what is found at a place of the format
@@ -40,7 +41,7 @@ module _ (s out : List ℕ) (p : ℕ) (passed : Passed s p) where
   read-there format reading o e at is =
       let (accepted, reads, writes) = tried-reads format s p out reading o e in
       let fits = accepts-fits format s p (holds (acceptsAs format s p) accepted) in
-      ap (outFound s out) (found-there s p passed at (omega (arith, fits, window-least format))) ∙ out-as s p out format is ∙ rw (reads, writes)
+      ap (outFound s out) (found-there s p passed at (omega (arith, fits, window-between format))) ∙ out-as s p out format is ∙ rw (reads, writes)
 
   -- a long window is read
   pub long-read : (reading : Reading) (o : List ℕ) → attemptOf Long s p out ≡ outcome (Reads reading) o

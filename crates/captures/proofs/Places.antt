@@ -5,7 +5,7 @@ use mathlib.Core.List.{List, []}
 use Prim.Native.Nat.{ℕ, _+_, _-_, _≤_, _<_}
 use native.Mathlib.Omega.{arith}
 use borrow.Author.Tests.{le-leb, lt-leb, leb-true, leb-false}
-use lib.Dec.{T, leb, lit≤}
+use lib.Dec.{T, leb}
 use lib.ListN.{length, take, drop, length-drop}
 use lib.Seq.{length-take-le}
 use Rattle.bits.specs.Bits.{allBits}
@@ -15,19 +15,10 @@ use Rattle.bits.proofs.First.{found-first, missing-first}
 use Rattle.bits.proofs.Tests.{is-false}
 use Rattle.formats.specs.declared.format.Format.{Format}
 use Rattle.formats.specs.declared.format.Format.the-variants.{Long, Short}
-use Rattle.formats.specs.Numbers.{long, short, numbersOf, windowBits}
+use Rattle.formats.specs.Numbers.{short, numbersOf, windowBits}
+use Rattle.formats.proofs.Sizes.{window-between}
 use Rattle.reader.proofs.Laws.{reads-size}
 use Rattle.captures.specs.Captures.{windowAt, acceptsAs, acceptsAt, firstPlace, formatAt}
-
--- no window is shorter than a short one
-pub window-least : (format : Format) → windowBits short ≤ windowBits (numbersOf format)
-window-least Long = lit≤ tt
-window-least Short = lit≤ tt
-
--- no block is longer than a long one
-pub block-most : (format : Format) → numbersOf format .m ≤ long .m
-block-most Long = lit≤ tt
-block-most Short = lit≤ tt
 
 -- ---- a format's window at a place
 
@@ -65,7 +56,7 @@ module _ (format : Format) (s : List ℕ) (p : ℕ) where
   -- what is accepted fits
   pub accepts-fits : T (acceptsAs format s p) → p + windowBits (numbersOf format) ≤ length s
   unfolding acceptsAs
-  accepts-fits h = window-some (λ e. omega (arith, e, window-least format, reads-size format (windowAt format s p) h))
+  accepts-fits h = window-some (λ e. omega (arith, e, window-between format, reads-size format (windowAt format s p) h))
 
   pub far-refused : length s < p + windowBits (numbersOf format) → acceptsAs format s p ≡ false
   far-refused h = is-false (acceptsAs format s p) (λ t. absurd (omega (arith, accepts-fits t)))
@@ -103,5 +94,5 @@ none-there s p passed over = missing-first (acceptsAt s) 0 (length s) (λ j from
     by-place : (j : ℕ) (b : Bool) → leb p j ≡ b → acceptsAt s j ≡ false
     by-place j true e =
         let after = leb-true p j e in
-        neither-there s j (far-refused Long s j (omega (arith, window-least Long))) (far-refused Short s j (omega arith))
+        neither-there s j (far-refused Long s j (omega (arith, window-between Long))) (far-refused Short s j (omega arith))
     by-place j false e = passed j (leb-false p j e)

@@ -3,6 +3,5 @@ pub mod Each
 pub mod Proper
 pub mod Round
 pub mod Runs
-pub mod Sizes
 pub mod Tests
 pub mod ThinnedRing

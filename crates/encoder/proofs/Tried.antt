@@ -10,7 +10,7 @@ use lib.Seq.{take-at}
 use Rattle.bits.specs.Bits.{allBits}
 use Rattle.formats.specs.declared.format.Format.{Format}
 use Rattle.formats.specs.Numbers.{numbersOf, blocks}
-use Rattle.formats.proofs.Sizes.{sizesOf}
+use Rattle.formats.proofs.Sizes.{sizesOf, block-between, telegram-between}
 use Rattle.scrambling.specs.Scrambling.{scrambled}
 use Rattle.scrambling.specs.Sum.{withSum}
 use Rattle.scrambling.proofs.Summed.{withSum-length, withSum-bits}
@@ -18,8 +18,7 @@ use Rattle.cyclic.specs.Check.{checkBits}
 use Rattle.cyclic.proofs.Formats.{factsOf}
 use Rattle.telegrams.specs.Telegram.{shaped, shapedData, settings, telegramOf}
 use Rattle.telegrams.proofs.Made.{bits-shapedData, length-made}
-use Rattle.telegrams.proofs.Buffers.Completed.{block-fits, data-front, made-telegram, telegram-data}
-use Rattle.conditions.proofs.Sizes.{sizes}
+use Rattle.telegrams.proofs.Buffers.Completed.{data-front, made-telegram, telegram-data}
 
 -- ---- the block
 
@@ -29,7 +28,7 @@ module _ (format : Format) (u : List ℕ) (size : length u ≡ numbersOf format 
   block-ten = omega (arith, sizesOf format)
 
   pub block-within : length u ≤ 830
-  block-within = omega (arith, block-fits format)
+  block-within = omega (arith, block-between format)
 
   -- s has the block with its sum over the front of old
   module _ (old s : List ℕ) (e : s ≡ withSum (length u / 10) u ++ drop (length u) old) where
@@ -60,7 +59,7 @@ pub record Trying (format : Format) (u : List ℕ) (B : ℕ) (t : List ℕ) : Ty
 
 module _ {format : Format} {u : List ℕ} {B : ℕ} {t : List ℕ} (h : Trying format u B t) where
   pub trying-fits : numbersOf format .n ≤ length t
-  trying-fits = omega (arith, sizes format)
+  trying-fits = omega (arith, telegram-between format)
 
   pub trying-bits : T (allBits (take (numbersOf format .n - 110) t))
   trying-bits = rw (h .front) (bits-shapedData (numbersOf format) u B)

@@ -1,5 +1,5 @@
 -- The relations between the numbers of a format (document 01, "The telegram, left to right"). Assumes nothing.
-use Prim.Native.Nat.{_+_, _*_, _≤_}
+use Prim.Native.Nat.{ℕ, _+_, _*_, _≤_}
 use mathlib.Core.Path.{_≡_, refl}
 use native.Mathlib.Omega.{arith}
 use lib.Dec.{lit≤}
@@ -15,18 +15,37 @@ pub record Sizes (F : Numbers) : Type 0 where
   -- a word for each block, and ten more
   pub words-are : F .words ≡ blocks F + 10
   pub some : 1 ≤ blocks F
+  -- a window repeats some of the telegram
+  pub r-within : F .r ≤ F .n
 
 pub longSizes : Sizes long
-longSizes = record { n-is = refl; m-is = refl; words-are = refl; some = lit≤ tt }
+longSizes = record { n-is = refl; m-is = refl; words-are = refl; some = lit≤ tt; r-within = lit≤ tt }
 
 pub shortSizes : Sizes short
-shortSizes = record { n-is = refl; m-is = refl; words-are = refl; some = lit≤ tt }
+shortSizes = record { n-is = refl; m-is = refl; words-are = refl; some = lit≤ tt; r-within = lit≤ tt }
 
 pub sizesOf : (format : Format) → Sizes (numbersOf format)
 sizesOf Long = longSizes
 sizesOf Short = shortSizes
 
--- no window is longer than a long one
-pub window-most : (format : Format) → windowBits (numbersOf format) ≤ windowBits long
-window-most Long = omega arith
-window-most Short = omega arith
+-- the words fill the telegram
+pub words-fill : (format : Format) → 11 * numbersOf format .words ≡ numbersOf format .n
+words-fill format = omega (arith, sizesOf format .words-are, sizesOf format .n-is)
+
+-- ---- a size of a format lies between the short one's and the long one's
+
+abbrev Between : (Numbers → ℕ) → Format → Type 0
+Between sizeOf format = (sizeOf short ≤ sizeOf (numbersOf format)) × (sizeOf (numbersOf format) ≤ sizeOf long)
+
+between : (sizeOf : Numbers → ℕ) → sizeOf short ≤ sizeOf long → (format : Format) → Between sizeOf format
+between sizeOf h Long = (h, omega arith)
+between sizeOf h Short = (omega arith, h)
+
+pub block-between : (format : Format) → (short .m ≤ numbersOf format .m) × (numbersOf format .m ≤ long .m)
+block-between = between (λ (F : Numbers). F .m) (lit≤ tt)
+
+pub telegram-between : (format : Format) → (short .n ≤ numbersOf format .n) × (numbersOf format .n ≤ long .n)
+telegram-between = between (λ (F : Numbers). F .n) (lit≤ tt)
+
+pub window-between : (format : Format) → (windowBits short ≤ windowBits (numbersOf format)) × (windowBits (numbersOf format) ≤ windowBits long)
+window-between = between windowBits (lit≤ tt)

@@ -92,14 +92,6 @@ module _ (format : Format) (w out : List ℕ) where
   pub reads-as : T (readsAs format w) → numbersOf format .m ≤ length out → readOf w out ≡ readOut format w out
   reads-as h room = read-as format w out (reads-size format w h) ∙ reads-out h room
 
-  -- and refused where it is not
-  pub unread-refused : readsAs format w ≡ false → (r : Refusal) × (readAs format w out ≡ outcome (Refused r) out)
-  unread-refused f = go read-or-refused
-    where
-      go : Refused⊎Read → (r : Refusal) × (readAs format w out ≡ outcome (Refused r) out)
-      go (inl q) = q
-      go (inr (h, room, e)) = absurd (fails (readsAs format w) f h)
-
   -- what an answer tells
   pub answered-read : (reading : Reading) (o : List ℕ) → readAs format w out ≡ outcome (Read reading) o
       → T (readsAs format w) × (numbersOf format .m ≤ length out) × (reading ≡ readingIn format w)

@@ -3,7 +3,7 @@ use mathlib.Core.Path.{_≡_, refl, sym, ap, _∙_}
 use mathlib.Core.List.{List}
 use Prim.Native.Nat.{ℕ, _≤_, _<_}
 use native.Mathlib.Omega.{arith}
-use lib.Dec.{T, lit≤}
+use lib.Dec.{T}
 use lib.ListN.{length, take, drop}
 use lib.Seq.{length-take-le}
 use Rattle.bits.specs.Bits.{allBits, around}
@@ -11,7 +11,6 @@ use Rattle.bits.proofs.AllBits.{allBits-take}
 use Rattle.bits.proofs.Equal.{same-true}
 use Rattle.bits.proofs.Tests.{holds}
 use Rattle.formats.specs.declared.format.Format.{Format}
-use Rattle.formats.specs.declared.format.Format.the-variants.{Long, Short}
 use Rattle.formats.specs.Numbers.{numbersOf, windowBits, gOf, fgOf}
 use Rattle.formats.proofs.Sizes.{sizesOf}
 use Rattle.cyclic.specs.Remainder.{remainder}
@@ -30,11 +29,6 @@ use Rattle.reader.proofs.Accepted.{Passed, reads-passed}
 use Rattle.reader.proofs.Turns.{turn-leaves}
 use Rattle.reader.proofs.CutReads.{oriented-fg}
 use Rattle.reader.proofs.Parts.Found.{length-back, bits-back, length-found, bits-found}
-
--- the extra bits are fewer than the telegram's
-extra-fewer : (format : Format) → numbersOf format .r ≤ numbersOf format .n
-extra-fewer Long = lit≤ tt
-extra-fewer Short = lit≤ tt
 
 -- a window that passed every test
 module _ (format : Format) (w : List ℕ) (p : Passed format w) where
@@ -92,7 +86,7 @@ module _ (format : Format) (w : List ℕ) (p : Passed format w) where
       let x = turnedBack F t w in
       let flipped = isFlipped F x in
       let some : 0 < length (oriented flipped x) = omega (arith, length-found F t w front, below) in
-      sym (window-of (F .n) (F .r) t w (extra-fewer format) (omega (arith, below)) (p .size) (same-true (drop (F .n) w) (take (F .r) w) (p .ends)))
+      sym (window-of (F .n) (F .r) t w (sizesOf format .r-within) (omega (arith, below)) (p .size) (same-true (drop (F .n) w) (take (F .r) w) (p .ends)))
       ∙ sym (cut-oriented k t flipped (oriented flipped x) some ∙ ap (around k t) (oriented-twice flipped x (bits-back F t w bits)))
 
 pub reads-cut : (format : Format) (w : List ℕ) → T (readsAs format w)

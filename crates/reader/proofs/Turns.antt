@@ -48,11 +48,3 @@ module _ (F : Numbers) (w : List ℕ) where
           → T (not (isTurn found))
       back (At t) e none = let at = found-leaves t e in absurd (none t (at .0) (at .1))
       back Nothing e none = tt
-
-  -- and is answered so
-  pub turn-nothing : T (not (isTurn (turnFound F w))) → turnFound F w ≡ Nothing
-  turn-nothing h = go (turnFound F w) h
-    where
-      go : (found : Turn) → T (not (isTurn found)) → found ≡ Nothing
-      go (At t) h = absurd h
-      go Nothing h = refl

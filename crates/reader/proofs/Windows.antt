@@ -10,7 +10,7 @@ use lib.ListN.{length, take, drop, take-append-drop}
 use lib.Seq.{take-take, length-take-le}
 use Rattle.bits.specs.Bits.{allBits, around}
 use Rattle.bits.proofs.Flipped.{length-flip, allBits-flip, flip-flip}
-use Rattle.bits.proofs.Ring.{length-around, take-around, drop-around, around-period, around-turned, flip-around}
+use Rattle.bits.proofs.Ring.{take-around, drop-around, around-period, around-turned, flip-around}
 use Rattle.cyclic.specs.Check.{turned}
 use Rattle.cyclic.proofs.Laws.{length-turned, turned-back}
 use Rattle.reader.specs.Windows.{oriented, cut}
@@ -30,10 +30,6 @@ oriented-twice true b h = flip-flip b h
 oriented-twice false b h = refl
 
 -- ---- the window of k bits
-
-pub length-cut : (k t : ℕ) (flipped : Bool) (b : List ℕ) → length (cut k t flipped b) ≡ k
-unfolding cut
-length-cut k t flipped b = length-oriented flipped (around k t b) ∙ length-around k t b
 
 -- a window cut flipped is cut from the telegram flipped
 pub cut-oriented : (k t : ℕ) (flipped : Bool) (b : List ℕ) → 0 < length b → cut k t flipped b ≡ around k t (oriented flipped b)

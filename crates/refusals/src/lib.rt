@@ -1,6 +1,6 @@
 // The refusals and their numbers (document 01, "When the bench says no", in its order).
 ghost use mathlib.Core.Path.{_≡_};
-ghost use Rattle.refusals.specs.Refused.{pairCount, refusalNumber, triedCount};
+ghost use Rattle.refusals.specs.Refused.{refusalNumber, triedCount};
 
 pub enum Refusal {
     Length,

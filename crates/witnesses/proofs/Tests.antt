@@ -12,7 +12,7 @@ use Rattle.bits.specs.Differences.{differences}
 use Rattle.formats.specs.declared.format.Format.{Format}
 use Rattle.formats.specs.declared.format.Format.the-variants.{Long, Short}
 use Rattle.formats.specs.Numbers.{long, numbersOf}
-use Rattle.formats.proofs.Sizes.{sizesOf}
+use Rattle.formats.proofs.Sizes.{sizesOf, telegram-between, words-fill}
 use Rattle.cyclic.proofs.Formats.{factsOf}
 use Rattle.telegrams.specs.Fields.{allWords}
 use Rattle.telegrams.specs.Telegram.{telegramOf}
@@ -21,7 +21,6 @@ use Rattle.telegrams.proofs.WellFormed.{made-well-formed}
 use Rattle.conditions.specs.Runs.{longest, longestRound}
 use Rattle.conditions.specs.Conditions.{fromTo, limitAt, offStepAt, offStepWithin, apart, shiftedApart, notRepeating, thinnedBelow, thinned, thinnedAt, thinnedBy, thinnedWithin, proper}
 use Rattle.conditions.proofs.Each.{each-same}
-use Rattle.conditions.proofs.Sizes.{sizes, words-fill}
 use Rattle.conditions.proofs.ThinnedRing.{length-thinned, allBits-thinned}
 use Rattle.witnesses.proofs.Twice.{validIn, twiceFrom, around-from, valid-from}
 
@@ -75,7 +74,7 @@ module _ (format : Format) (b : List ℕ) (bits : T (allBits b)) (size : length 
   n = numbersOf format .n
 
   some : 0 < n
-  some = omega (arith, sizes format)
+  some = omega (arith, telegram-between format)
 
   off-step-is : offStepWithin format b ≡ fromTo 1 10 (offStepTwice format (b ++ b))
   unfolding offStepWithin offStepAt
@@ -87,7 +86,7 @@ module _ (format : Format) (b : List ℕ) (bits : T (allBits b)) (size : length 
   apart-is : (d p k : ℕ) → apart d b p k ≡ apartTwice n d (b ++ b) p k
   unfolding apart
   apart-is d p k =
-      let fits : 22 ≤ n = omega (arith, sizes format) in
+      let fits : 22 ≤ n = omega (arith, telegram-between format) in
       ap₂ (λ (x y : List ℕ). leb d (differences x y)) (around-from b n size some 22 p fits) (around-from b n size some 22 (p + k) fits)
 
   shifted-is : (p : ℕ) → shiftedApart b p ≡ shiftedTwice n (b ++ b) p

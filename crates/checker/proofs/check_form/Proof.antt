@@ -9,13 +9,13 @@ use lib.ListN.{drop}
 use Rattle.bits.specs.Bits.{allBits, same}
 use Rattle.bits.proofs.Tests.{is-true, holds}
 use Rattle.formats.specs.Numbers.{numbersOf}
+use Rattle.formats.proofs.Sizes.{words-fill}
 use Rattle.refusals.specs.declared.Refusal.{Refusal}
 use Rattle.refusals.specs.Table.{Verdict, answerBy}
 use Rattle.refusals.proofs.Table.{Decides, passed, failed}
 use Rattle.cyclic.specs.Check.{divisible, unturned}
 use Rattle.telegrams.specs.Telegram.{control}
 use Rattle.telegrams.specs.Fields.{controlOf, allWords}
-use Rattle.conditions.proofs.Sizes.{words-fill}
 use Rattle.checker.specs.declared.Checked.the-variants.{Proper, Refused}
 use Rattle.checker.specs.Checking.{checkTable, checkAs}
 use Rattle.checker.proofs.Steps.{decided}

@@ -4,15 +4,14 @@ use mathlib.Core.Path.{_≡_, sym, ap, ap₂, subst⁻¹, _∙_}
 use mathlib.Core.List.{List, _++_, append-assoc}
 use Prim.Native.Nat.{ℕ, _+_, _-_, _*_, _≤_}
 use native.Mathlib.Omega.{arith}
-use lib.Dec.{T, lit≤}
+use lib.Dec.{T}
 use lib.ListN.{length, take, drop, length-append, take-append-drop}
 use lib.Seq.{take-append-le, length-take-le}
 use Rattle.bits.specs.Bits.{allBits, numberOf, bitsOf}
 use Rattle.bits.proofs.AllBits.{allBits-append}
 use Rattle.bits.proofs.Parts.{front-is, rest-is, drop-from}
 use Rattle.formats.specs.declared.format.Format.{Format}
-use Rattle.formats.specs.declared.format.Format.the-variants.{Long, Short}
-use Rattle.formats.specs.Numbers.{Numbers, long, numbersOf, blocks}
+use Rattle.formats.specs.Numbers.{Numbers, numbersOf, blocks}
 use Rattle.formats.proofs.Sizes.{Sizes, sizesOf}
 use Rattle.scrambling.specs.Scrambling.{scrambled}
 use Rattle.scrambling.specs.Sum.{withSum}
@@ -22,11 +21,6 @@ use Rattle.cyclic.proofs.Machine.Lists.{check-list}
 use Rattle.telegrams.specs.Telegram.{shaped, shapedData, settings, unchecked, telegramOf}
 use Rattle.telegrams.proofs.Made.{length-settings, bits-settings, length-shapedData, length-made, made-data}
 use Rattle.telegrams.proofs.Buffers.Fronts.{lent, back, front-more}
-
--- a block of either format fits the longer
-pub block-fits : (format : Format) → numbersOf format .m ≤ long .m
-block-fits Long = lit≤ tt
-block-fits Short = lit≤ tt
 
 -- ---- the buffer t that has the shaped data over the front of old
 

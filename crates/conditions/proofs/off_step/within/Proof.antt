@@ -8,10 +8,10 @@ use borrow.Author.Tests.{le-leb, lt-leb}
 use lib.Dec.{leb}
 use Rattle.formats.specs.declared.format.Format.{Format}
 use Rattle.formats.specs.Numbers.{numbersOf}
+use Rattle.formats.proofs.Sizes.{telegram-between, words-fill}
 use Rattle.conditions.specs.Runs.{validWords, longest}
 use Rattle.conditions.specs.Conditions.{limitAt, offStepWithin, offStepAt}
 use Rattle.conditions.proofs.Each.{Passed, passed-none, passed-more, passed-fails, passed-done}
-use Rattle.conditions.proofs.Sizes.{words-fill, sizes}
 use Rattle.conditions.proofs.off_step.within.Statement.{statement}
 use Rattle.conditions.proofs.off_step.within.Tie as tie
 
@@ -35,7 +35,7 @@ words-requires c κs = search needs
 sub-count : tie.Need-sub-count Inv-loop μ-loop
 sub-count c =
     let format = c .before .before .args .format in
-    omega (arith, c .words .ensures, words-fill format, sizes format)
+    omega (arith, c .words .ensures, words-fill format, telegram-between format)
 
 loop-holds : tie.Need-loop-holds Inv-loop μ-loop
 unfolding offStepWithin
@@ -50,7 +50,7 @@ longest-run-requires : tie.Need-longest-run-requires Inv-loop μ-loop
 longest-run-requires c κs =
     let s = c .before .before .before .before .before in
     let length = s .pre .1 in
-    let least = sizes (s .args .format) .0 in
+    let least = telegram-between (s .args .format) .0 in
     (s .pre .0, (omega arith, omega arith))
 
 -- the test at p, by what the calls answer

@@ -7,8 +7,8 @@ use borrow.Author.Needs.{needs}
 use lib.ListN.{length, take}
 use lib.Pow.{pow-mono}
 use lib.Seq.{take-at}
+use Rattle.formats.proofs.Sizes.{telegram-between}
 use Rattle.conditions.specs.Conditions.{fromTo, thinnedBelow, thinned, thinnedAt, thinnedBy}
-use Rattle.conditions.proofs.Sizes.{sizes}
 use Rattle.conditions.proofs.ThinnedRing.{length-thinnedBelow, length-thinned, allBits-thinned}
 use Rattle.conditions.proofs.thinned.thinned_by.Statement.{statement}
 use Rattle.conditions.proofs.thinned.thinned_by.Tie as tie
@@ -35,7 +35,7 @@ slice-aggregate-thin c = search needs
 thin-requires : tie.Need-thin-requires
 thin-requires c κs =
     let s = c .before .before in
-    let n = sizes (s .args .format) in
+    let n = telegram-between (s .args .format) in
     let p = power (s .args .k) (s .pre .1 .1) in
     (omega arith, (omega arith, omega arith))
 
@@ -48,7 +48,7 @@ module _ (t : tie.After-thin) where
       front (s .args .b .now) _ _ (s .args .k) _ (power (s .args .k) (s .pre .1 .1) .0) (t .thin .ensures)
 
 array-share-prefix-v : tie.Need-array-share-prefix-v
-array-share-prefix-v c = omega (arith, c .before .thin .kept .1 .1 .0, sizes (c .before .before .before .before .args .format))
+array-share-prefix-v c = omega (arith, c .before .thin .kept .1 .1 .0, telegram-between (c .before .before .before .before .args .format))
 
 slice-aggregate-within-round : tie.Need-slice-aggregate-within-round
 slice-aggregate-within-round c = sym (ap length (written (c .before .before)) ∙ length-thinned _ _)

@@ -9,10 +9,10 @@ use borrow.Author.Tests.{le-leb, lt-leb}
 use lib.Dec.{leb}
 use Rattle.formats.specs.declared.format.Format.{Format}
 use Rattle.formats.specs.Numbers.{numbersOf}
+use Rattle.formats.proofs.Sizes.{telegram-between, words-fill}
 use Rattle.conditions.specs.Runs.{validWords, longestRound}
 use Rattle.conditions.specs.Conditions.{fromTo, thinnedAt}
 use Rattle.conditions.proofs.Each.{each-same, Passed, passed-none, passed-more, passed-fails, passed-done}
-use Rattle.conditions.proofs.Sizes.{words-fill, sizes}
 use Rattle.conditions.proofs.thinned.within_round.Statement.{statement}
 use Rattle.conditions.proofs.thinned.within_round.Tie as tie
 
@@ -43,7 +43,7 @@ longest-round-requires : tie.Need-longest-round-requires Inv-loop μ-loop
 longest-round-requires c κs =
     let s = c .before .before .before .before in
     let length = s .pre .1 in
-    let least = sizes (s .args .format) .0 in
+    let least = telegram-between (s .args .format) .0 in
     let fill = words-fill (s .args .format) in
     let words = c .before .before .words .ensures in
     ((s .pre .0, (omega arith, omega arith)), omega arith)

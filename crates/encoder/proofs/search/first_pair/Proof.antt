@@ -8,12 +8,11 @@ use lib.ListN.{length, take}
 use lib.Seq.{length-take-le}
 use Rattle.bits.proofs.Left.{Left, left-all, left-fewer, left-found, left-none}
 use Rattle.formats.specs.Numbers.{numbersOf}
-use Rattle.formats.proofs.Sizes.{sizesOf}
+use Rattle.formats.proofs.Sizes.{sizesOf, telegram-between}
 use Rattle.refusals.specs.Refused.{pairCount}
 use Rattle.cyclic.proofs.Formats.{factsOf}
 use Rattle.telegrams.specs.Telegram.{telegramOf}
 use Rattle.telegrams.proofs.Made.{bits-made, length-made}
-use Rattle.conditions.proofs.Sizes.{sizes}
 use Rattle.encoder.specs.Encoding.{passes, firstPair}
 use Rattle.encoder.specs.Searched.{madeProper, pairOf}
 use Rattle.encoder.proofs.Pairs.{pair-searched, pair-passes}
@@ -112,7 +111,7 @@ write-shaped-data-requires c κs =
     let u = s .args .block .now in
     let summed = sum .write-summed .last .1 .0 in (
       summed-bits format u (s .pre .1) _ summed (sum .write-summed .ensures) (s .pre .0),
-      (summed-size format u (s .pre .1) _ summed (sum .write-summed .ensures), omega (arith, sizes format, turn .before .loop .inv .0)),
+      (summed-size format u (s .pre .1) _ summed (sum .write-summed .ensures), omega (arith, telegram-between format, turn .before .loop .inv .0)),
     )
 
 loop2-holds : tie.Need-loop2-holds Inv-loop2 μ-loop2 Inv-loop μ-loop Inv-search μ-search

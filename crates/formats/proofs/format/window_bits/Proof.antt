@@ -1,7 +1,7 @@
 -- `formats::format::window_bits` meets its contract: no window is longer than a long one. Assumes nothing.
 use native.Mathlib.Omega.{arith}
 use borrow.Author.Needs.{needs}
-use Rattle.formats.proofs.Sizes.{window-most}
+use Rattle.formats.proofs.Sizes.{window-between}
 use Rattle.formats.proofs.format.window_bits.Statement.{statement}
 use Rattle.formats.proofs.format.window_bits.Tie as tie
 
@@ -12,7 +12,7 @@ extra-bits-requires : tie.Need-extra-bits-requires
 extra-bits-requires c κs = search needs
 
 add-result : tie.Need-add-result
-add-result c = omega (arith, window-most (c .before .before .args .format))
+add-result c = omega (arith, window-between (c .before .before .args .format))
 
 returns : tie.Need-returns
 returns c = search needs

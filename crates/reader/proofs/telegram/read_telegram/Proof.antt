@@ -12,13 +12,12 @@ use Rattle.bits.specs.Bits.{same}
 use Rattle.bits.proofs.Tests.{holds, clash}
 use Rattle.formats.specs.Numbers.{numbersOf, blocks}
 use Rattle.refusals.specs.Outcome.{outcome}
-use Rattle.formats.proofs.Sizes.{sizesOf}
+use Rattle.formats.proofs.Sizes.{sizesOf, block-between}
 use Rattle.telegrams.specs.declared.undoing.Unshaped.the-variants.{Whole, NotWord}
 use Rattle.telegrams.specs.Telegram.{control}
 use Rattle.telegrams.specs.Fields.{controlOf, allWords, unshaped}
 use Rattle.telegrams.specs.Unshaped.{wholeIf}
 use Rattle.telegrams.proofs.Shaping.{length-unshaped, bits-unshaped}
-use Rattle.telegrams.proofs.Buffers.Completed.{block-fits}
 use Rattle.telegrams.proofs.Buffers.UserBits.{data-blocks, user-bits}
 use Rattle.reader.specs.declared.ReadAnswer.the-variants.{Read}
 use Rattle.reader.specs.Reads.{readingOf}
@@ -64,7 +63,7 @@ unshape-requires : tie.Need-unshape-requires
 unshape-requires c κs =
     let start = c .before .before .before .before .before .before in
     let S = sizesOf (start .args .format) in
-    (start .pre .0, (omega (arith, S), omega (arith, S, block-fits (start .args .format))))
+    (start .pre .0, (omega (arith, S), omega (arith, S, block-between (start .args .format))))
 
 enum-told : tie.Need-enum-told
 enum-told c = search needs
@@ -108,7 +107,7 @@ user-bits-requires c κs = search needs
 array-share-prefix-unshaped : tie.Need-array-share-prefix-unshaped
 array-share-prefix-unshaped c =
     let start = c .before .before .before .before .before .before .before .before .before .before .before .before in
-    omega (arith, block-fits (start .args .format), c .before .before .before .before .before .unshape .kept)
+    omega (arith, block-between (start .args .format), c .before .before .before .before .before .unshape .kept)
 
 slice-aggregate-write-user-bits : tie.Need-slice-aggregate-write-user-bits
 slice-aggregate-write-user-bits c =
@@ -132,7 +131,7 @@ write-user-bits-requires c κs =
     rw (data-blocks F S b u (drop (10 * words .words .result) zeros) (words .words .result) (bits .user-bits .result)
     (words .words .ensures) (bits .user-bits .ensures) (filled told)) (
       bits-unshaped (blocks F) b,
-      ((omega (arith, size, S), omega (arith, size, S, block-fits (a .format))), omega (arith, size, S, start .pre .1 .1)),
+      ((omega (arith, size, S), omega (arith, size, S, block-between (a .format))), omega (arith, size, S, start .pre .1 .1)),
     )
 
 same-length : tie.Need-same-length

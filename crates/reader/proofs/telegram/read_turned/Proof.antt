@@ -7,8 +7,7 @@ use native.Mathlib.Omega.{arith}
 use borrow.Author.Needs.{needs}
 use lib.ListN.{length, take, drop, replicate}
 use Rattle.formats.specs.Numbers.{numbersOf}
-use Rattle.formats.proofs.Sizes.{sizesOf}
-use Rattle.telegrams.proofs.Buffers.Completed.{block-fits}
+use Rattle.formats.proofs.Sizes.{sizesOf, block-between}
 use Rattle.reader.specs.Reads.{telegramIn}
 use Rattle.reader.specs.AtTurn.{readTelegram, readAtTurn}
 use Rattle.reader.proofs.Parts.Found.{length-found, bits-found, found-front}
@@ -17,7 +16,7 @@ use Rattle.reader.proofs.telegram.read_turned.Tie as tie
 
 -- a telegram of either format fits the array
 fits : (c : tie.Start) → numbersOf (c .args .format) .n ≤ 1023
-fits c = omega (arith, sizesOf (c .args .format), block-fits (c .args .format))
+fits c = omega (arith, sizesOf (c .args .format), block-between (c .args .format))
 
 slice-aggregate-telegram-in : tie.Need-slice-aggregate-telegram-in
 slice-aggregate-telegram-in c = search needs

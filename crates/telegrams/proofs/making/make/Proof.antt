@@ -10,13 +10,13 @@ use lib.Seq.{length-take-le}
 use Rattle.bits.specs.Bits.{allBits}
 use Rattle.bits.proofs.Parts.{front-is}
 use Rattle.formats.specs.Numbers.{long, numbersOf, blocks}
-use Rattle.formats.proofs.Sizes.{sizesOf}
+use Rattle.formats.proofs.Sizes.{sizesOf, block-between}
 use Rattle.scrambling.specs.Scrambling.{scrambled}
 use Rattle.scrambling.specs.Sum.{withSum}
 use Rattle.scrambling.proofs.Summed.{withSum-length, withSum-bits}
 use Rattle.telegrams.specs.Telegram.{shaped}
 use Rattle.telegrams.proofs.Made.{bits-shapedData}
-use Rattle.telegrams.proofs.Buffers.Completed.{block-fits, data-front, made-over}
+use Rattle.telegrams.proofs.Buffers.Completed.{data-front, made-over}
 use Rattle.telegrams.proofs.making.make.Statement.{statement}
 use Rattle.telegrams.proofs.making.make.Tie as tie
 
@@ -26,7 +26,7 @@ module _ (c : tie.Start) where
   ten = omega (arith, sizesOf (c .args .format))
 
   fits : length (c .args .block .now) ≤ long .m
-  fits = omega (arith, block-fits (c .args .format))
+  fits = omega (arith, block-between (c .args .format))
 
 slice-aggregate-write-summed : tie.Need-slice-aggregate-write-summed
 slice-aggregate-write-summed c = search needs

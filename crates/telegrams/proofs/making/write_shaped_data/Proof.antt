@@ -9,13 +9,12 @@ use lib.ListN.{length, drop, replicate}
 use Rattle.bits.proofs.AllBits.{allBits-append, allBits-drop}
 use Rattle.bits.proofs.Groups.{groups-front}
 use Rattle.formats.specs.Numbers.{long}
-use Rattle.formats.proofs.Sizes.{sizesOf}
+use Rattle.formats.proofs.Sizes.{sizesOf, block-between}
 use Rattle.scrambling.specs.Scrambling.{scrambled}
 use Rattle.scrambling.proofs.Scrambled.{scrambled-length, scrambled-bits}
 use Rattle.cyclic.proofs.Lists.{bits-zeros}
 use Rattle.telegrams.specs.Telegram.{shaped}
 use Rattle.telegrams.proofs.Shaping.{wordOfBlock}
-use Rattle.telegrams.proofs.Buffers.Completed.{block-fits}
 use Rattle.telegrams.proofs.making.write_shaped_data.Statement.{statement}
 use Rattle.telegrams.proofs.making.write_shaped_data.Tie as tie
 
@@ -29,7 +28,7 @@ slice-aggregate-scramble c = search needs
 scramble-requires : tie.Need-scramble-requires
 scramble-requires c κs =
     let start = c .before .before .before in
-    (start .pre .0, omega (arith, block-fits (start .args .format)))
+    (start .pre .0, omega (arith, block-between (start .args .format)))
 
 slice-aggregate-shape : tie.Need-slice-aggregate-shape
 slice-aggregate-shape c = search needs
@@ -42,7 +41,7 @@ shape-requires c κs =
     let v = a .summed .now in
     let rest = allBits-drop (length v) zeros (bits-zeros (long .m)) in (
       rw (call .scramble .ensures) (allBits-append (scrambled (a .b) v) (drop (length v) zeros) (scrambled-bits (a .b) v) rest),
-      (omega (arith, block-fits (a .format)), omega (arith, sizesOf (a .format) .n-is)),
+      (omega (arith, block-between (a .format)), omega (arith, sizesOf (a .format) .n-is)),
     )
 
 same-length : tie.Need-same-length
