@@ -1,16 +1,15 @@
 -- Demand 3 (document 01, "Demand 3's windows"): every undamaged window of a telegram that encode wrote reads back to its block and its
 -- turn, none comes from two blocks, a short window of a long telegram is refused with up to 14 bits changed, and so is an undamaged long
 -- window of a short one. Assumes nothing.
-use mathlib.Core.Path.{_≡_, refl, sym, ap, subst⁻¹, _∙_}
-use mathlib.Core.Bool.{Bool, true, false}
+use mathlib.Core.Path.{_≡_, refl, ap, subst⁻¹, _∙_}
+use mathlib.Core.Bool.{Bool, false}
 use mathlib.Core.List.{List}
 use Prim.Native.Nat.{ℕ, _≤_, _<_}
 use native.Mathlib.Omega.{arith}
 use lib.Dec.{T}
-use lib.ListN.{length, take, drop}
+use lib.ListN.{length}
 use Rattle.bits.specs.Bits.{allBits, around}
 use Rattle.bits.specs.Differences.{differences}
-use Rattle.bits.proofs.Equal.{other-same}
 use Rattle.bits.proofs.Ring.{length-around, allBits-around}
 use Rattle.bits.proofs.Tests.{is-true}
 use Rattle.formats.specs.declared.format.Format.{Format}
@@ -29,12 +28,13 @@ use Rattle.reader.specs.CutFrom.{CutFrom}
 use Rattle.reader.specs.Reads.{endsAgree, readAs, readOf}
 use Rattle.reader.specs.ReadsExactly.{gaveBlock}
 use Rattle.reader.proofs.Windows.{length-oriented, bits-oriented, cut-oriented}
+use Rattle.reader.proofs.Ends.{ends-differ}
 use Rattle.reader.proofs.Steps.{read-as, room-refused, ends-refused, turn-refused}
 use Rattle.reader.proofs.CutReads.{formed-code, cut-once}
 use Rattle.reader.proofs.Exact.{cut-read}
 use Rattle.demands.specs.Demand3.{SomeProper, Wrote, refusedWith, Demand3}
 use Rattle.demands.proofs.Wrote.{some-first, wrote-proper, wrote-formed, wrote-scrambling, wrote-userBits}
-use Rattle.demands.proofs.ShortFromLong.{ends-differ, ends-differ-flipped}
+use Rattle.demands.proofs.ShortFromLong.{changed-ends}
 use Rattle.demands.proofs.LongFromShort.{rounds-agree, rounds-divisible, rounds-no-turn}
 
 -- encode answers with the first proper pair and writes its telegram
@@ -80,10 +80,7 @@ one-block format u v B esb C e b c wrote other s t p q f g same =
 -- with at most 14 bits changed its ends do not agree
 short-ends : (b : List ℕ) → length b ≡ 1023 → T (allBits b) → T (notRepeating Long b) → (t : ℕ) (flipped : Bool) (w : List ℕ) → length w ≡ 462
     → differences (cut 462 t flipped b) w ≤ 14 → endsAgree short w ≡ false
-unfolding endsAgree cut
-short-ends b all bits apart t true w size few =
-    other-same (drop 341 w) (take 121 w) (λ e. ends-differ-flipped b all apart bits t w size few (sym e))
-short-ends b all bits apart t false w size few = other-same (drop 341 w) (take 121 w) (λ e. ends-differ b all apart t w size few (sym e))
+short-ends b all bits apart t flipped w size few = ends-differ short w (changed-ends b all apart bits t flipped w size few)
 
 -- so it is refused
 short-from-long : (u : List ℕ) (B esb : ℕ) (b : List ℕ) → Wrote Long u B esb b → (t : ℕ) → t < long .n → (flipped : Bool)

@@ -20,11 +20,11 @@ use Rattle.words.specs.Words.{wordOf}
 use Rattle.scrambling.specs.Scrambling.{nextState, scrambledFrom, scrambled}
 use Rattle.scrambling.specs.Sum.{withSum, withoutSum}
 use Rattle.cyclic.specs.Remainder.{step, remainderFrom, remainder}
-use Rattle.cyclic.specs.Check.{divisible, turnOf}
-use Rattle.cyclic.proofs.Laws.{shortFacts, zeros}
+use Rattle.cyclic.specs.Check.{divisible}
+use Rattle.cyclic.proofs.Laws.{zeros}
 use Rattle.reader.specs.declared.ReadAnswer.{ReadAnswer}
 use Rattle.reader.specs.declared.ReadAnswer.the-variants.{Refused}
-use Rattle.reader.specs.Reads.{readValues, endsAgree, turnFound, readOf}
+use Rattle.reader.specs.Reads.{readValues, endsAgree, readOf}
 use Rattle.reader.proofs.Steps.{any-window, read-as, ends-refused, turn-refused, length-refused}
 use Rattle.demands.specs.BenchSheet.{refusedRead, answers, sheet}
 use Rattle.demands.proofs.LongFromShort.{zero-no-turn}
@@ -47,11 +47,10 @@ unfolding remainder remainderFrom step sum fOf polynomial coefficientsBelow coef
 zeros-rest = refl
 
 zeros-read : readOf (replicate 462 0) (replicate 210 0) ≡ outcome (Refused NoTurn) (replicate 210 0)
-unfolding turnFound
 zeros-read =
     read-as Short (replicate 462 0) (replicate 210 0) refl
     ∙ turn-refused Short (replicate 462 0) (replicate 210 0) refl zeros-bits (lit≤ tt) zeros-ends zeros-divisible
-    (ap (turnOf short) zeros-rest ∙ zero-no-turn short shortFacts)
+    (zero-no-turn Short (replicate 462 0) zeros-rest)
 
 -- the number that a reading of w answers
 read-number : (w : List ℕ) (r : Refusal) → readOf w (replicate 210 0) ≡ outcome (Refused r) (replicate 210 0) → refusedRead w ≡ refusalNumber r

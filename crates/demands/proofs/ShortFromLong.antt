@@ -1,7 +1,8 @@
 -- A window of 462 bits of a long telegram that meets condition 3, with at most 14 bits changed, has ends that do not agree: of the
 -- pairs of places (j, j + 341), j below 121, at least 15 differ, and a change mends at most one of them. Assumes nothing.
+use mathlib.Core.Bool.{Bool, true, false}
 use mathlib.Core.List.{List}
-use mathlib.Core.Path.{_≡_, sym, ap, ap₂, _∙_}
+use mathlib.Core.Path.{_≡_, sym, ap, ap₂, subst, _∙_}
 use Prim.Native.Nat.{ℕ, zero, suc, _+_, _-_, _*_, _/_, _%_, _≤_}
 use native.Mathlib.Omega.{arith}
 use lib.Dec.{T}
@@ -16,6 +17,8 @@ use Rattle.bits.proofs.Ring.{length-around, allBits-around, around-append, arou
 use Rattle.formats.specs.declared.format.Format.the-variants.{Long}
 use Rattle.conditions.specs.Conditions.{notRepeating}
 use Rattle.conditions.proofs.Apart.{word-apart}
+use Rattle.reader.specs.Windows.{oriented, cut}
+use Rattle.reader.proofs.Windows.{cut-is}
 
 -- first j places of both, then the rest
 differences-around : (j k p q : ℕ) (b : List ℕ) → differences (around (j + k) p b) (around (j + k) q b)
@@ -65,17 +68,27 @@ module _ (b : List ℕ) (size : length b ≡ 1023) (condition : T (notRepeating 
   window-ends : (t : ℕ) → 15 ≤ differences (take 121 (around 462 t b)) (drop 341 (around 462 t b))
   window-ends t = rw (take-around 121 341 t b, drop-around 341 121 t b) (fifteen t)
 
-  -- the ends of a window with at most 14 bits changed do not agree
-  pub ends-differ : (t : ℕ) (w : List ℕ) → length w ≡ 462 → differences (around 462 t b) w ≤ 14 → take 121 w ≡ drop 341 w → ⊥
-  ends-differ t w f few agree =
+  -- the ends of a window with at most 14 bits changed do not agree: cut upright
+  upright-ends : (t : ℕ) (w : List ℕ) → length w ≡ 462 → differences (around 462 t b) w ≤ 14 → take 121 w ≡ drop 341 w → ⊥
+  upright-ends t w f few agree =
       omega (arith, window-ends t, ends-changes 121 220 (around 462 t b) w (length-around 462 t b) f agree)
 
-  -- nor that of a window cut flipped
-  pub ends-differ-flipped : T (allBits b) → (t : ℕ) (w : List ℕ) → length w ≡ 462 → differences (flip (around 462 t b)) w ≤ 14
+  -- cut flipped
+  flipped-ends : T (allBits b) → (t : ℕ) (w : List ℕ) → length w ≡ 462 → differences (flip (around 462 t b)) w ≤ 14
       → take 121 w ≡ drop 341 w → ⊥
-  ends-differ-flipped bits t w f few agree =
+  flipped-ends bits t w f few agree =
       let x : List ℕ = around 462 t b in
       let xbits = allBits-around 462 t b bits in
       let same = differences-flip (take 121 x) (drop 341 x) (allBits-take 121 x xbits) (allBits-drop 341 x xbits) in
       let changed = ends-changes 121 220 (flip x) w (length-flip x ∙ length-around 462 t b) f agree in
       omega (arith, window-ends t, rw (flip-take, flip-drop) at same)
+
+  -- either way
+  pub changed-ends : T (allBits b) → (t : ℕ) (flipped : Bool) (w : List ℕ) → length w ≡ 462 → differences (cut 462 t flipped b) w ≤ 14
+      → drop 341 w ≡ take 121 w → ⊥
+  changed-ends bits t flipped w f few agree =
+      go flipped (subst (λ (x : List ℕ). differences x w ≤ 14) (cut-is 462 t flipped b) few)
+    where
+      go : (flipped : Bool) → differences (oriented flipped (around 462 t b)) w ≤ 14 → ⊥
+      go true few = flipped-ends bits t w f few (sym agree)
+      go false few = upright-ends t w f few (sym agree)

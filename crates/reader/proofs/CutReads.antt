@@ -29,6 +29,7 @@ use Rattle.reader.specs.declared.Reading.{Reading}
 use Rattle.reader.specs.Windows.{oriented}
 use Rattle.reader.specs.Reads.{endsAgree, turnFound, isTurn, turnIn, isFlipped, turnedBack, telegramIn, readingOf, readingIn, userBitsIn, readsAs}
 use Rattle.reader.specs.CutFrom.{CutFrom}
+use Rattle.reader.proofs.Ends.{ends-agree}
 use Rattle.reader.proofs.Windows.{length-oriented, bits-oriented, oriented-twice, cut-oriented, ring-front, ring-ends}
 use Rattle.reader.proofs.Accepted.{reads-passed}
 
@@ -77,11 +78,9 @@ module _ (format : Format) (x : List ℕ) (t : ℕ) (bits : T (allBits x)) (size
 
   -- its ends agree
   ring-agrees : endsAgree (numbersOf format) (around (windowBits (numbersOf format)) t x) ≡ true
-  unfolding endsAgree
   ring-agrees =
       let F = numbersOf format in
-      let w = around (windowBits F) t x in
-      equal-same (drop (F .n) w) (take (F .r) w) (ring-ends (F .n) (F .r) t x size)
+      ends-agree F (around (windowBits F) t x) (ring-ends (F .n) (F .r) t x size)
 
   -- g divides its first n bits
   ring-divisible : divisible (numbersOf format) (take (numbersOf format .n) (around (windowBits (numbersOf format)) t x)) ≡ true

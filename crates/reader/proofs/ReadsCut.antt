@@ -4,7 +4,7 @@ use mathlib.Core.List.{List}
 use Prim.Native.Nat.{ℕ, _≤_, _<_}
 use native.Mathlib.Omega.{arith}
 use lib.Dec.{T}
-use lib.ListN.{length, take, drop}
+use lib.ListN.{length, take}
 use lib.Seq.{length-take-le}
 use Rattle.bits.specs.Bits.{allBits, around}
 use Rattle.bits.proofs.AllBits.{allBits-take}
@@ -22,8 +22,9 @@ use Rattle.telegrams.specs.Fields.{controlOf, allWords, wellFormed}
 use Rattle.telegrams.proofs.Checked.{checked-remainder}
 use Rattle.telegrams.proofs.WellFormed.{from-parts}
 use Rattle.reader.specs.Windows.{oriented, cut}
-use Rattle.reader.specs.Reads.{endsAgree, turnIn, isFlipped, turnedBack, telegramIn, readingOf, readingIn, userBitsIn, readsAs}
+use Rattle.reader.specs.Reads.{turnIn, isFlipped, turnedBack, telegramIn, readingOf, readingIn, userBitsIn, readsAs}
 use Rattle.reader.specs.CutFrom.{CutFrom}
+use Rattle.reader.proofs.Ends.{ends-repeat}
 use Rattle.reader.proofs.Windows.{oriented-twice, cut-oriented, window-of}
 use Rattle.reader.proofs.Accepted.{Passed, reads-passed}
 use Rattle.reader.proofs.Turns.{turn-leaves}
@@ -78,7 +79,7 @@ module _ (format : Format) (w : List ℕ) (p : Passed format w) where
   found-window : let F = numbersOf format in
       let t = turnIn F w in
       w ≡ cut (windowBits F) t (isFlipped F (turnedBack F t w)) (telegramIn F t w)
-  unfolding telegramIn turnedBack endsAgree
+  unfolding telegramIn turnedBack
   found-window =
       let F = numbersOf format in
       let t = turnIn F w in
@@ -86,7 +87,7 @@ module _ (format : Format) (w : List ℕ) (p : Passed format w) where
       let x = turnedBack F t w in
       let flipped = isFlipped F x in
       let some : 0 < length (oriented flipped x) = omega (arith, length-found F t w front, below) in
-      sym (window-of (F .n) (F .r) t w (sizesOf format .r-within) (omega (arith, below)) (p .size) (same-true (drop (F .n) w) (take (F .r) w) (p .ends)))
+      sym (window-of (F .n) (F .r) t w (sizesOf format .r-within) (omega (arith, below)) (p .size) (ends-repeat F w (p .ends)))
       ∙ sym (cut-oriented k t flipped (oriented flipped x) some ∙ ap (around k t) (oriented-twice flipped x (bits-back F t w bits)))
 
 pub reads-cut : (format : Format) (w : List ℕ) → T (readsAs format w)

@@ -34,17 +34,20 @@ module _ (F : Numbers) (w : List ℕ) where
   pub turn-leaves : isTurn (turnFound F w) ≡ true → (turnIn F w < F .n) × (turnRemainder F (turnIn F w) ≡ remainder (fOf F) (take (F .n) w))
   turn-leaves h = found-leaves (turnIn F w) (turn-at h)
 
-  -- refusal 7 applies exactly where no turn below n has the remainder
+  -- there is none where no turn below n has the remainder
+  pub turn-none : ((t : ℕ) → t < F .n → turnRemainder F t ≡ remainder (fOf F) (take (F .n) w) → ⊥) → turnFound F w ≡ Nothing
+  turn-none none = go (turnFound F w) refl
+    where
+      go : (found : Turn) → turnFound F w ≡ found → found ≡ Nothing
+      go (At t) e = let at = found-leaves t e in absurd (none t (at .0) (at .1))
+      go Nothing e = refl
+
+  -- refusal 7 applies exactly there
   pub no-turn : T (not (isTurn (turnFound F w))) ↔ ((t : ℕ) → t < F .n → turnRemainder F t ≡ remainder (fOf F) (take (F .n) w) → ⊥)
   unfolding turnFound
-  no-turn = (forth (turnFound F w) refl, back (turnFound F w) refl)
+  no-turn = (forth (turnFound F w) refl, λ none. rw (turn-none none) tt)
     where
       forth : (found : Turn) → turnFound F w ≡ found → T (not (isTurn found))
           → (t : ℕ) → t < F .n → turnRemainder F t ≡ remainder (fOf F) (take (F .n) w) → ⊥
       forth (At t) e h = absurd h
       forth Nothing e h = turnOf-nothing F (remainder (fOf F) (take (F .n) w)) e
-
-      back : (found : Turn) → turnFound F w ≡ found → ((t : ℕ) → t < F .n → turnRemainder F t ≡ remainder (fOf F) (take (F .n) w) → ⊥)
-          → T (not (isTurn found))
-      back (At t) e none = let at = found-leaves t e in absurd (none t (at .0) (at .1))
-      back Nothing e none = tt

@@ -31,6 +31,10 @@ oriented-twice false b h = refl
 
 -- ---- the window of k bits
 
+pub cut-is : (k t : ℕ) (flipped : Bool) (b : List ℕ) → cut k t flipped b ≡ oriented flipped (around k t b)
+unfolding cut
+cut-is k t flipped b = refl
+
 -- a window cut flipped is cut from the telegram flipped
 pub cut-oriented : (k t : ℕ) (flipped : Bool) (b : List ℕ) → 0 < length b → cut k t flipped b ≡ around k t (oriented flipped b)
 unfolding cut
