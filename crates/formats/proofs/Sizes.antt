@@ -15,7 +15,7 @@ pub record Sizes (F : Numbers) : Type 0 where
   -- a word for each block, and ten more
   pub words-are : F .words ≡ blocks F + 10
   pub some : 1 ≤ blocks F
-  -- a window repeats some of the telegram
+  -- a window repeats no more bits than the telegram has
   pub r-within : F .r ≤ F .n
 
 pub longSizes : Sizes long
@@ -34,18 +34,18 @@ words-fill format = omega (arith, sizesOf format .words-are, sizesOf format .n-i
 
 -- ---- a size of a format lies between the short one's and the long one's
 
-abbrev Between : (Numbers → ℕ) → Format → Type 0
+abbrev pub Between : (Numbers → ℕ) → Format → Type 0
 Between sizeOf format = (sizeOf short ≤ sizeOf (numbersOf format)) × (sizeOf (numbersOf format) ≤ sizeOf long)
 
 between : (sizeOf : Numbers → ℕ) → sizeOf short ≤ sizeOf long → (format : Format) → Between sizeOf format
 between sizeOf h Long = (h, omega arith)
 between sizeOf h Short = (omega arith, h)
 
-pub block-between : (format : Format) → (short .m ≤ numbersOf format .m) × (numbersOf format .m ≤ long .m)
+pub block-between : (format : Format) → Between (λ (F : Numbers). F .m) format
 block-between = between (λ (F : Numbers). F .m) (lit≤ tt)
 
-pub telegram-between : (format : Format) → (short .n ≤ numbersOf format .n) × (numbersOf format .n ≤ long .n)
+pub telegram-between : (format : Format) → Between (λ (F : Numbers). F .n) format
 telegram-between = between (λ (F : Numbers). F .n) (lit≤ tt)
 
-pub window-between : (format : Format) → (windowBits short ≤ windowBits (numbersOf format)) × (windowBits (numbersOf format) ≤ windowBits long)
+pub window-between : (format : Format) → Between windowBits format
 window-between = between windowBits (lit≤ tt)
