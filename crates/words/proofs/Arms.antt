@@ -1,6 +1,6 @@
 -- The last arm of a match on 0, 1, 2, and so on. Assumes nothing.
 use mathlib.Core.Path.{_≡_}
-use Prim.Native.Nat.{ℕ, zero, suc, _≤_, _<_}
+use Prim.Native.Nat.{ℕ, zero, suc, _≤_}
 use native.Mathlib.Omega.{arith}
 
 -- x is none of the k numbers below k, as the last arm is told it
@@ -8,12 +8,9 @@ abbrev pub NoneBelow : ℕ → ℕ → Type 0
 NoneBelow zero x = Unit
 NoneBelow (suc k) x = NoneBelow k x × (x ≡ k → ⊥)
 
-none-below : (k x : ℕ) → NoneBelow k x → k ≤ x
+pub none-below : (k x : ℕ) → NoneBelow k x → k ≤ x
 none-below zero x h = omega arith
 none-below (suc k) x h =
     let above = none-below k x (h .0) in
     let other = h .1 in
     omega arith
-
-pub last-arm : (k x : ℕ) → NoneBelow k x → x < suc k → x ≡ k
-last-arm k x h l = omega (arith, none-below k x h)

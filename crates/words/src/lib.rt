@@ -46,33 +46,30 @@ pub fn word(i: u16) -> u16
     TABLE[i as usize]
 }
 
-// The number of a word: how many words of the table are below it, since the table rises. A word of 2048 or more is not in it.
+// The number of a word: how many words of the table are below it, since the table rises. With 1024 more for a word that the table
+// does not have, the sum alone decides, and no branch waits for the word's bit.
 pub fn look_up(word: u16) -> Lookup
     ensures { λ r. ⌜ r ≡ lookupOf word ⌝ }
 {
-    if 2048 <= word {
-        return Lookup::NotInTable;
-    }
-    let part = word / 64;
+    let part = parts::part_at(word / 64);
+    let words = part.words;
     let place = word % 64;
-    let words = parts::present(part);
-    if (words >> place) % 2 == 0 {
+    let absent = 1 - (words >> place) % 2;
+    let below = u64::count_ones(words % (1u64 << place)) as u16;
+    let number = part.before + below + 1024 * (absent as u16);
+    if 1024 <= number {
         return Lookup::NotInTable;
     }
-    let below = u64::count_ones(words % (1u64 << place)) as u16;
-    Lookup::Number(parts::before(part) + below)
+    Lookup::Number(number)
 }
 
 // Whether a word is in the table.
 pub fn in_table(word: u16) -> bool
     ensures { λ r. ⌜ r ≡ inTable word ⌝ }
 {
-    if 2048 <= word {
-        return false;
-    }
-    let words = parts::present(word / 64);
+    let part = parts::part_at(word / 64);
     let place = word % 64;
-    (words >> place) % 2 == 1
+    (part.words >> place) % 2 == 1
 }
 
 // Whether a word is in the group of 250 barred words.

@@ -5,7 +5,6 @@ use crate::{heading, inputs, set, timed_row, INPUTS};
 use second::cyclic;
 use second::format::Format;
 use second::random::Random;
-use second::words;
 use std::hint::black_box;
 
 /// A division of the layers, and one of plain Rust.
@@ -35,22 +34,6 @@ fn division_rows(name: &str, telegrams: &[Vec<u8>], ours: Ours, divisor: u128, p
     timed_row(&name, INPUTS, "1.5", &mut ours, variable);
     let name = "the same, the divisor a constant";
     timed_row(name, INPUTS, "1.5", &mut ours, constant);
-}
-
-/// Prints the row of the lookup of each of the 2,048 words.
-fn look_up_row() {
-    let ours = |_| {
-        for word in 0..2048 {
-            black_box(layers::look_up(black_box(word)));
-        }
-    };
-    let plain = |_| {
-        for word in 0..2048 {
-            black_box(words::number(black_box(word)));
-        }
-    };
-    let name = "lookup of a word, each of 2,048";
-    timed_row(name, 2048, "0.1", ours, plain);
 }
 
 /// Prints the row of scrambling, each block by another B.
@@ -84,13 +67,12 @@ pub fn layers() {
         "Ours include the wrapper's test that each byte is a bit. Plain: the second program's"
     );
     println!("division in a u128, its divisor a variable, and the same loop with its divisor a");
-    println!("constant; its walk of the table from the front; the same algorithm of scrambling.");
+    println!("constant; the same algorithm of scrambling.");
     println!();
     heading();
     let by_g = plain::remainder::<G>;
     division_rows("g", &telegrams, layers::remainder_g, G, by_g);
     let by_fg = plain::remainder::<FG>;
     division_rows("f*g", &telegrams, layers::remainder_fg, FG, by_fg);
-    look_up_row();
     scrambling_row(&blocks);
 }

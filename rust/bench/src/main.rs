@@ -1,80 +1,8 @@
-//! Times the proved calls and layers against plain Rust in one run, and prints
-//! docs/PERFORMANCE.md. It judges nothing. An argument names a file with what
-//! `.ci/run` printed, for the seconds of the check.
+//! Prints docs/PERFORMANCE.md. An argument names a file with what `.ci/run`
+//! printed, for the seconds of the check.
 
-mod calls;
-mod captures;
-mod gate;
-mod layer_rows;
-mod plain;
-#[cfg(test)]
-mod plain_tests;
-
-use second::random::Random;
 use std::process::exit;
-use std::time::Instant;
 use std::{env, fs};
-
-/// Many short repetitions, so that most are not interrupted.
-const REPETITIONS: usize = 301;
-
-/// Inputs in a repetition.
-const INPUTS: usize = 64;
-
-/// Repetitions with different inputs, so that no branch predictor learns them.
-const SETS: usize = 32;
-
-/// Random bits for every set of inputs.
-fn inputs(random: &mut Random, length: usize) -> Vec<Vec<u8>> {
-    (0..SETS * INPUTS).map(|_| random.bits(length)).collect()
-}
-
-/// The inputs of a set.
-fn set(inputs: &[Vec<u8>], i: usize) -> &[Vec<u8>] {
-    &inputs[i * INPUTS..][..INPUTS]
-}
-
-fn microseconds(work: impl FnOnce()) -> f64 {
-    let start = Instant::now();
-    work();
-    start.elapsed().as_nanos() as f64 / 1000.0
-}
-
-fn median(mut times: Vec<f64>) -> f64 {
-    times.sort_by(f64::total_cmp);
-    times[times.len() / 2]
-}
-
-/// Prints the head of a table of ratios.
-fn heading() {
-    println!("| what | ours, microseconds | ours / plain | aim: at most |");
-    println!("|---|---|---|---|");
-}
-
-/// Prints a row of it, the times in microseconds.
-fn row(name: &str, ours: f64, plain: f64, aim: &str) {
-    let digits = if ours < 10.0 { 3 } else { 0 };
-    let ratio = ours / plain;
-    println!("| {name} | {ours:.digits$} | {ratio:.2} | {aim} |");
-}
-
-/// Times both sides and prints a row. Each closure does a number of calls on a
-/// set of inputs.
-fn timed_row(
-    name: &str,
-    calls: usize,
-    aim: &str,
-    mut ours: impl FnMut(usize),
-    mut plain: impl FnMut(usize),
-) {
-    let (mut our_times, mut plain_times) = (Vec::new(), Vec::new());
-    for repetition in 0..REPETITIONS {
-        let i = repetition % SETS;
-        our_times.push(microseconds(|| ours(i)) / calls as f64);
-        plain_times.push(microseconds(|| plain(i)) / calls as f64);
-    }
-    row(name, median(our_times), median(plain_times), aim);
-}
 
 /// What `.ci/run` printed, if an argument names the file that has it.
 fn gate_log() -> Option<String> {
@@ -89,25 +17,5 @@ fn gate_log() -> Option<String> {
 }
 
 fn main() {
-    let log = gate_log();
-    println!("# Figures");
-    println!();
-    println!(
-        "Printed by the program `bench`, with nothing else running, from the repository's root:"
-    );
-    println!();
-    println!("```");
-    println!("mkdir -p rust/target && .ci/run > rust/target/gate.log");
-    println!("cd rust && cargo run --release --offline -p bench -- target/gate.log > ../docs/PERFORMANCE.md");
-    println!("```");
-    println!();
-    println!("Ratios of one run, both sides built for release; nothing asserts a time. Medians of");
-    println!("{REPETITIONS} repetitions of {INPUTS} inputs, ours and plain in turn, unless a table says otherwise. Output");
-    println!("buffers are cleared before the first call only, for both.");
-    layer_rows::layers();
-    calls::calls();
-    captures::captures();
-    if let Some(log) = log {
-        gate::gate(&log);
-    }
+    bench::figures(gate_log().as_deref());
 }

@@ -128,6 +128,7 @@ pub fn word(i: u16) -> u16 {
 }
 
 /// The number of a word, or 1024 where the table does not have it.
+#[inline]
 pub fn look_up(word: u16) -> u16 {
     // SAFETY: the contract asks nothing.
     unsafe { exported::balise_layers_look_up(word) }

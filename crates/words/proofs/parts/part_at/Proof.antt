@@ -1,19 +1,20 @@
--- `words::parts::before` meets its contract: each arm has its entry. Assumes nothing.
-use mathlib.Core.Path.{ap, sym}
-use Prim.Native.Nat.{ℕ}
-use native.Mathlib.Omega.{arith}
+-- `words::parts::part_at` meets its contract: each arm has its two entries, and the last one stands for every part past them. Assumes nothing.
+use mathlib.Core.Path.{sym}
+use Prim.Native.Nat.{_≤_}
 use borrow.Author.Needs.{needs}
-use lib.ListN.{getD}
-use Rattle.words.specs.PartsOf64.{before}
-use Rattle.words.proofs.Arms.{last-arm}
-use Rattle.words.proofs.parts.before.Statement.{statement}
-use Rattle.words.proofs.parts.before.Tie as tie
+use lib.ListN.{List·getD-eq-default}
+use Rattle.words.specs.PartsOf64.{present, before}
+use Rattle.words.proofs.Arms.{none-below}
+use Rattle.words.proofs.parts.part_at.Statement.{statement}
+use Rattle.words.proofs.parts.part_at.Tie as tie
 
 returns-32 : tie.Need-returns-32
-returns-32 c = ap (λ (k : ℕ). getD before k 0) (sym (last-arm 31 _ (c .match .rest) (omega arith)))
+returns-32 c =
+    let past : 31 ≤ c .before .args .k = none-below 31 _ (c .match .rest) in
+    (sym (List·getD-eq-default present 0 past), sym (List·getD-eq-default before 1024 past))
 
-pub before-spec : {M : Type 1} → statement M
-before-spec =
+pub part-at-spec : {M : Type 1} → statement M
+part-at-spec =
     tie.close
     (tie.spec
     (λ c. search needs) (λ c. search needs) (λ c. search needs) (λ c. search needs) (λ c. search needs) (λ c. search needs) (λ c. search needs) (λ c. search needs)
