@@ -162,14 +162,14 @@ fn times(orders: &[Order]) -> Times {
 pub fn look_up() {
     let (ordered, random) = (times(&in_order()), times(&in_random_orders()));
     println!(
-        "All {WORDS} words, by ours and by walks of the table from the front in plain Rust: in"
+        "All {WORDS} words, by ours and by walks of the table from the front in plain Rust, in"
     );
-    println!("turn, from 0 up and in another random order each time. Nanoseconds a word, medians");
-    println!("of {REPETITIONS} repetitions. Every answer of ours and of the walks was that of the second");
+    println!("turn: from 0 up, and in {SETS} random orders. Nanoseconds a word, medians of {REPETITIONS}");
     println!(
-        "program. The crossing into the library, a call for each word, is in our figure; a walk"
+        "repetitions. Every answer of ours and of the walks was that of the second program. The"
     );
-    println!("is a call too. Asked: at most 0.25 of a walk's time; the aim: at most 0.05.");
+    println!("crossing into the library, a call for each word, is in our figure; a walk is a call");
+    println!("too. Asked: at most 0.25 of a walk's time; the aim: at most 0.05.");
     println!();
     println!("| what | from 0 up | ours / walk | random order | ours / walk |");
     println!("|---|---|---|---|---|");
