@@ -1,7 +1,8 @@
 -- `words::look_up` meets its contract: the rank is the number. Assumes nothing.
+use Prim.Native.Nat.{_<_}
 use native.Mathlib.Omega.{arith}
 use borrow.Author.Needs.{needs}
-use Rattle.words.proofs.Ranks.{divides, few, rank-small, marked-none, marked-number}
+use Rattle.words.proofs.Ranks.{rank, divides, few, rank-small, marked-none, marked-number}
 use Rattle.words.proofs.look_up.Statement.{statement}
 use Rattle.words.proofs.look_up.Tie as tie
 
@@ -29,11 +30,14 @@ rem-below c = divides (c .before .args .word)
 cast-below-2 : tie.Need-cast-below-2
 cast-below-2 c = record { fits = omega (arith, few (c .part-at .result .words) (c .before .args .word)) }
 
+small : (c : tie.After-struct-known)
+    → rank (c .before .part-at .result .words) (c .before .part-at .result .before) (c .before .before .args .word) < 2048
+small c =
+    let facts = c .before .part-at .ensures in
+    rank-small (c .before .before .args .word) _ (facts .0) _ (facts .1)
+
 add-number : tie.Need-add-number
-add-number c =
-    let part = c .before in
-    let facts = part .part-at .ensures in
-    record { fits = omega (arith, rank-small (part .before .args .word) _ (facts .0) _ (facts .1)) }
+add-number c = record { fits = omega (arith, small c) }
 
 cast-number : tie.Need-cast-number
 cast-number c = search needs
@@ -42,10 +46,7 @@ mul-number : tie.Need-mul-number
 mul-number c = search needs
 
 add-number-2 : tie.Need-add-number-2
-add-number-2 c =
-    let part = c .before in
-    let facts = part .part-at .ensures in
-    record { fits = omega (arith, rank-small (part .before .args .word) _ (facts .0) _ (facts .1)) }
+add-number-2 c = record { fits = omega (arith, small c) }
 
 returns : tie.Need-returns
 returns c =
