@@ -1,7 +1,10 @@
 pub mod Apart
 pub mod Each
+pub mod Limits
+pub mod Longest
 pub mod Proper
 pub mod Round
 pub mod Runs
 pub mod Tests
 pub mod ThinnedRing
+pub mod UpToInvalid

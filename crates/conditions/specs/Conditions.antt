@@ -1,5 +1,5 @@
 -- The conditions of a proper telegram (document 01, "Four conditions of a proper telegram"). b is b(n-1) to b0, so that b(i) stands
--- at place n-1-i of the list, and the strip from b(n-1-p) rightward starts at place p.
+-- at place n-1-i of the list, and the words from b(n-1-p) rightward start at place p.
 -- Assumes nothing.
 use Prim.Native.Nat.{ℕ, zero, suc, _+_, _-_, _*_, _%_, _^_}
 use mathlib.Core.Bool.{Bool, true, cond, _&&_, _||_}
@@ -12,7 +12,7 @@ use Rattle.formats.specs.declared.format.Format.{Format}
 use Rattle.formats.specs.declared.format.Format.the-variants.{Long, Short}
 use Rattle.formats.specs.Numbers.{long, numbersOf}
 use Rattle.telegrams.specs.Fields.{wellFormed}
-use Rattle.conditions.specs.Runs.{validWords, longest, longestRound}
+use Rattle.conditions.specs.Runs.{validWords, longestRound}
 
 -- the test holds of each of k numbers from i on
 unfoldable pub each : (ℕ → Bool) → ℕ → ℕ → Bool
@@ -31,9 +31,9 @@ offStepLimit Short = 6
 unfoldable pub limitAt : Format → ℕ → ℕ
 limitAt format p = cond (eqb p 1 || eqb p 10) 2 (offStepLimit format)
 
--- off step by p, on the straight strip: one word fewer fits
+-- off step by p, round the ring of n/11 words (document 02, No. 5)
 unfoldable pub offStepAt : Format → List ℕ → ℕ → Bool
-offStepAt format b p = leb (longest (validWords (numbersOf format .words - 1) p b)) (limitAt format p)
+offStepAt format b p = leb (longestRound (validWords (numbersOf format .words) p b)) (limitAt format p)
 
 unfoldable pub offStepWithin : Format → List ℕ → Bool
 offStepWithin format b = fromTo 1 10 (offStepAt format b)

@@ -1,4 +1,4 @@
-// Condition 2, off step (document 01, "Four conditions of a proper telegram").
+// Condition 2, off step (document 01, "Four conditions of a proper telegram"; document 02, No. 5).
 ghost use mathlib.Core.Path.{_≡_};
 ghost use lib.Dec.{T};
 ghost use lib.ListN.{length};
@@ -25,14 +25,14 @@ fn limit_at(format: Format, p: usize) -> usize
     }
 }
 
-// Whether condition 2 holds. On the straight strip one word fewer fits off step.
+// Whether condition 2 holds.
 pub fn within(format: Format, b: &[u8]) -> bool
     requires { ⌜ T (allBits (now b)) × (length (now b) ≡ numbersOf format .n) ⌝ }
     ensures { λ r. ⌜ r ≡ offStepWithin format (now (b .entry)) ⌝ }
 {
-    let count = format::words(format) - 1;
+    let words = format::words(format);
     for p in 1..11 {
-        if limit_at(format, p) < run::longest_run(b, p, count) {
+        if !run::within(b, p, words, limit_at(format, p)) {
             return false;
         }
     }

@@ -1,46 +1,44 @@
-// Runs of valid words.
+// Runs of valid words round a ring, against a limit.
 ghost use mathlib.Core.Path.{_≡_};
-ghost use Prim.Native.Nat.{_*_, max, _≤_, _<_};
-ghost use lib.Dec.{T};
+ghost use Prim.Native.Nat.{_*_, _≤_, _<_};
+ghost use lib.Dec.{T, leb};
 ghost use lib.ListN.{length};
 ghost use Rattle.bits.specs.Bits.{allBits};
-ghost use Rattle.conditions.specs.Runs.{validWords, longest, longestRound};
+ghost use Rattle.conditions.specs.Runs.{validWords, longestRound, upToInvalid};
 use crate::ring;
 
-// The larger of two numbers.
-fn larger(x: usize, y: usize) -> usize
-    ensures { λ r. ⌜ r ≡ max x y ⌝ }
+// Of count words from place p on, going round, how many there are up to and with the last invalid one; 0 where all are valid.
+fn up_to_invalid(b: &[u8], p: usize, count: usize) -> usize
+    requires { ⌜ T (allBits (now b)) × ((p < length (now b)) × (11 * count ≤ length (now b))) ⌝ }
+    ensures { λ r. ⌜ r ≡ upToInvalid count p (now (b .entry)) ⌝ }
 {
-    if x < y { y } else { x }
+    let mut left = count;
+    while 0 < left {
+        if !ring::is_word_at(b, ring::place_after(p, 11 * (left - 1), b.len())) {
+            return left;
+        }
+        left -= 1;
+    }
+    0
 }
 
-// The longest run of valid words among count words from place p on, going round.
-pub fn longest_run(b: &[u8], p: usize, count: usize) -> usize
-    requires { ⌜ T (allBits (now b)) × ((p < length (now b)) × (11 ≤ length (now b))) ⌝ }
-    ensures { λ r. ⌜ r ≡ longest (validWords count p (now (b .entry))) ⌝ }
+// Whether no run of valid words round the ring, whose words from place p on are `words`, exceeds limit. A longer run begins at one of
+// these words, and its first span words are valid: so of span words none up to the last invalid one begins such a run.
+pub fn within(b: &[u8], p: usize, words: usize, limit: usize) -> bool
+    requires { ⌜ T (allBits (now b)) × (p < length (now b)) ⌝ }
+    requires { ⌜ (11 * words ≡ length (now b)) × (limit < words) ⌝ }
+    ensures { λ r. ⌜ r ≡ leb (longestRound (validWords words p (now (b .entry)))) limit ⌝ }
 {
-    let mut run: usize = 0;
-    let mut best: usize = 0;
+    let span = limit + 1;
     let mut at = p;
     let mut i: usize = 0;
-    while i < count {
-        if ring::is_word_at(b, at) {
-            run += 1;
-        } else {
-            best = larger(best, run);
-            run = 0;
+    while i < words {
+        let past = up_to_invalid(b, at, span);
+        if past == 0 {
+            return false;
         }
-        at = ring::place_after(at, 11, b.len());
-        i += 1;
+        at = ring::place_after(at, 11 * past, b.len());
+        i += past;
     }
-    larger(best, run)
-}
-
-// The longest run of valid words round the ring, whose words from place p on are count: twice round holds every run.
-pub fn longest_round(b: &[u8], p: usize, count: usize) -> usize
-    requires { ⌜ T (allBits (now b)) × ((p < length (now b)) × (11 ≤ length (now b))) ⌝ }
-    requires { ⌜ 11 * count ≡ length (now b) ⌝ }
-    ensures { λ r. ⌜ r ≡ longestRound (validWords count p (now (b .entry))) ⌝ }
-{
-    longest_run(b, p, 2 * count)
+    true
 }

@@ -7,21 +7,24 @@ ghost use lib.ListN.{length, drop};
 ghost use Rattle.bits.specs.Bits.{allBits};
 ghost use Rattle.formats.specs.Numbers.{long, numbersOf};
 ghost use Rattle.conditions.specs.Conditions.{fromTo, thinnedBelow, thinnedAt, thinnedBy, thinnedWithin};
+use crate::ring;
 use crate::run;
 use formats::format;
 use formats::format::Format;
 use formats::format::Long;
 
-// Writes v(n-1) to v0, v(j) = b(j*step), over the front of out.
+// Writes v(n-1) to v0, v(j) = b(j*step), over the front of out. From j to j-1 the place goes on by step.
 fn thin(b: &[u8], step: usize, out: &mut [u8])
-    requires { ⌜ (length (now b) ≤ length (now out)) × ((length (now b) ≤ long .n) × (step ≤ 16)) ⌝ }
+    requires { ⌜ (length (now b) ≤ length (now out)) × ((0 < length (now b)) × (step ≤ length (now b))) ⌝ }
     ensures { λ _. ⌜ now (out .exit) ≡ thinnedBelow (length (now (b .entry))) step (now (b .entry)) ++ drop (length (now (b .entry))) (now (out .entry)) ⌝ }
 {
     let n = b.len();
+    let mut at = n - 1;
     let mut j = n;
     while 0 < j {
         j -= 1;
-        out[n - 1 - j] = b[n - 1 - j * step % n];
+        at = ring::place_after(at, step, n);
+        out[n - 1 - j] = b[at];
     }
 }
 
@@ -32,7 +35,7 @@ fn within_round(format: Format, v: &[u8]) -> bool
 {
     let words = format::words(format);
     for a in 0..11 {
-        if 30 < run::longest_round(v, a, words) {
+        if !run::within(v, a, words, 30) {
             return false;
         }
     }

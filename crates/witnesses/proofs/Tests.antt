@@ -18,7 +18,7 @@ use Rattle.telegrams.specs.Fields.{allWords}
 use Rattle.telegrams.specs.Telegram.{telegramOf}
 use Rattle.telegrams.proofs.Made.{length-made, bits-made}
 use Rattle.telegrams.proofs.WellFormed.{made-well-formed}
-use Rattle.conditions.specs.Runs.{longest, longestRound}
+use Rattle.conditions.specs.Runs.{longestRound}
 use Rattle.conditions.specs.Conditions.{fromTo, limitAt, offStepAt, offStepWithin, apart, shiftedApart, notRepeating, thinnedBelow, thinned, thinnedAt, thinnedBy, thinnedWithin, proper}
 use Rattle.conditions.proofs.Each.{each-same}
 use Rattle.conditions.proofs.ThinnedRing.{length-thinned, allBits-thinned}
@@ -29,7 +29,7 @@ use Rattle.witnesses.proofs.Twice.{validIn, twiceFrom, around-from, val
 -- condition 2
 abbrev offStepTwice : Format → List ℕ → ℕ → Bool
 offStepTwice format s p =
-    leb (longest (validIn (numbersOf format .words - 1) (twiceFrom (numbersOf format .n) p s))) (limitAt format p)
+    leb (longestRound (validIn (numbersOf format .words) (twiceFrom (numbersOf format .n) p s))) (limitAt format p)
 
 -- condition 3
 abbrev apartTwice : ℕ → ℕ → List ℕ → ℕ → ℕ → Bool
@@ -80,8 +80,8 @@ module _ (format : Format) (b : List ℕ) (bits : T (allBits b)) (size : length 
   unfolding offStepWithin offStepAt
   off-step-is =
       each-same _ _ 1 10 λ p.
-      ap (λ (l : List Bool). leb (longest l) (limitAt format p))
-      (valid-from b n size some bits (numbersOf format .words - 1) p (omega (arith, words-fill format)))
+      ap (λ (l : List Bool). leb (longestRound l) (limitAt format p))
+      (valid-from b n size some bits (numbersOf format .words) p (omega (arith, words-fill format)))
 
   apart-is : (d p k : ℕ) → apart d b p k ≡ apartTwice n d (b ++ b) p k
   unfolding apart

@@ -5,7 +5,7 @@ use mathlib.Core.List.{List}
 use Prim.Native.Nat.{ℕ, _-_}
 use native.Mathlib.Omega.{arith}
 use borrow.Author.Needs.{needs}
-use borrow.Author.Tests.{le-leb, lt-leb}
+use borrow.Author.Tests.{not-true, not-false}
 use lib.Dec.{leb}
 use Rattle.formats.specs.declared.format.Format.{Format}
 use Rattle.formats.specs.Numbers.{numbersOf}
@@ -39,20 +39,14 @@ words-requires c κs = search needs
 loop-holds : tie.Need-loop-holds Inv-loop μ-loop
 loop-holds c = passed-none (test (c .before .before .args .v .now) (c .words .result)) 0 11
 
-longest-round-requires : tie.Need-longest-round-requires Inv-loop μ-loop
-longest-round-requires c κs =
+within-requires : tie.Need-within-requires Inv-loop μ-loop
+within-requires c κs =
     let s = c .before .before .before .before in
     let length = s .pre .1 in
     let least = telegram-between (s .args .format) .0 in
     let fill = words-fill (s .args .format) in
     let words = c .before .before .words .ensures in
-    ((s .pre .0, (omega arith, omega arith)), omega arith)
-
--- the test at a, by what the call answers
-module _ (c : tie.After-longest-round Inv-loop μ-loop) where
-  compared : test (c .before .before .before .before .before .args .v .now) (c .before .before .before .words .result) (c .before .before .loop .a)
-      ≡ leb (c .longest-round .result) 30
-  compared = ap (λ (x : ℕ). leb x 30) (sym (c .longest-round .ensures))
+    ((s .pre .0, omega arith), (omega arith, omega arith))
 
 -- so the answer is that of the definition
 round : (w : tie.After-words Inv-loop μ-loop)
@@ -65,7 +59,7 @@ round w =
 returns : tie.Need-returns Inv-loop μ-loop
 returns c =
     let l = c .before .before .before in
-    passed-fails (l .loop .inv) (omega arith) (compared (c .before) ∙ lt-leb _ _ (c .if1 .taken)) ∙ sym (round (l .before))
+    passed-fails (l .loop .inv) (omega arith) (sym (c .before .within .ensures) ∙ not-true _ (c .if1 .taken)) ∙ sym (round (l .before))
 
 add-a : tie.Need-add-a Inv-loop μ-loop
 add-a c = omega arith
@@ -75,7 +69,7 @@ loop-less c = omega arith
 
 loop-again : tie.Need-loop-again Inv-loop μ-loop
 loop-again c =
-    passed-more (c .before .before .before .loop .inv) (omega arith) (compared (c .before) ∙ le-leb _ _ (c .if1 .left))
+    passed-more (c .before .before .before .loop .inv) (omega arith) (sym (c .before .within .ensures) ∙ not-false _ (c .if1 .left))
 
 returns-2 : tie.Need-returns-2 Inv-loop μ-loop
 returns-2 c = passed-done (c .before .loop .inv) (omega arith) ∙ sym (round (c .before .before))
@@ -88,7 +82,7 @@ within-round-spec =
     μ-loop
     words-requires
     loop-holds
-    longest-round-requires
+    within-requires
     returns
     add-a
     loop-less
