@@ -5,6 +5,7 @@ pub mod Longest
 pub mod Proper
 pub mod Round
 pub mod Runs
+pub mod Sought
 pub mod Tests
 pub mod ThinnedRing
 pub mod UpToInvalid

@@ -1,5 +1,5 @@
--- Bits and words round a ring: places are counted modulo its length, a loop takes the next bit or word, and the words once round and
--- then once more are twice the same. Assumes nothing.
+-- Bits and words round a ring: places are counted modulo its length, a loop takes the next bit, and words are cut into those before, one and
+-- those after. Assumes nothing.
 use mathlib.Core.Path.{_≡_, refl, sym, ap, ap₂, _∙_}
 use mathlib.Core.Bool.{Bool}
 use mathlib.Core.List.{List, [], _∷_, _++_}
@@ -38,6 +38,11 @@ pub around-done : (k i p : ℕ) (b : List ℕ) → k ≤ i → around (k - i) p 
 unfolding around
 around-done k i p b h = ap (λ (x : ℕ). around x p b) (count-done h)
 
+pub length-validWords : (k p : ℕ) (b : List ℕ) → length (validWords k p b) ≡ k
+unfolding validWords
+length-validWords zero p b = refl
+length-validWords (suc k) p b = ap suc (length-validWords k (p + 11) b)
+
 pub validWords-mod : (k p : ℕ) (b : List ℕ) → validWords k (p % length b) b ≡ validWords k p b
 unfolding validWords
 validWords-mod zero p b = refl
@@ -45,18 +50,6 @@ validWords-mod (suc k) p b =
     let n = length b in
     ap₂ (λ (x : List ℕ) (l : List Bool). isWord x ∷ l) (around-mod 11 p b)
     (sym (validWords-mod k (p % n + 11) b) ∙ ap (λ (x : ℕ). validWords k x b) (mod-add-mod p n 11) ∙ validWords-mod k (p + 11) b)
-
--- of k words from place p, after i of them: the next, and the rest after it
-pub validWords-more : (k i p : ℕ) (b : List ℕ) → i < k
-    → validWords (k - i) p b ≡ isWord (around 11 p b) ∷ validWords (k - (i + 1)) ((p + 11) % length b) b
-unfolding validWords
-validWords-more k i p b h =
-    ap (λ (x : ℕ). validWords x p b) (count-more h)
-    ∙ ap (λ (l : List Bool). isWord (around 11 p b) ∷ l) (sym (validWords-mod (k - (i + 1)) (p + 11) b))
-
-pub validWords-done : (k i p : ℕ) (b : List ℕ) → k ≤ i → validWords (k - i) p b ≡ []
-unfolding validWords
-validWords-done k i p b h = ap (λ (x : ℕ). validWords x p b) (count-done h)
 
 -- first j words, then the rest
 pub validWords-append : (j k p : ℕ) (b : List ℕ) → validWords (j + k) p b ≡ validWords j p b ++ validWords k (p + 11 * j) b
@@ -72,6 +65,14 @@ validWords-append (suc j) k p b =
     ∙ ap (λ (l : List Bool). isWord (around 11 p b) ∷ l)
     (validWords-append j k (p + 11) b ∙ ap (λ (x : ℕ). validWords j (p + 11) b ++ validWords k x b) place)
 
+-- j words, one more, and the rest
+pub validWords-one : (j k p : ℕ) (b : List ℕ)
+    → validWords (j + suc k) p b ≡ validWords j p b ++ isWord (around 11 (p + 11 * j) b) ∷ validWords k (p + 11 * suc j) b
+unfolding validWords
+validWords-one j k p b =
+    let place : p + 11 * j + 11 ≡ p + 11 * suc j = omega arith in
+    validWords-append j (suc k) p b ∙ ap (λ (x : ℕ). validWords j p b ++ isWord (around 11 (p + 11 * j) b) ∷ validWords k x b) place
+
 -- once round is the same place
 pub validWords-period : (k p : ℕ) (b : List ℕ) → validWords k (p + length b) b ≡ validWords k p b
 unfolding validWords
@@ -80,10 +81,3 @@ validWords-period (suc k) p b =
     let place : p + length b + 11 ≡ p + 11 + length b = omega arith in
     ap₂ (λ (x : List ℕ) (l : List Bool). isWord x ∷ l) (around-period 11 p b)
     (ap (λ (x : ℕ). validWords k x b) place ∙ validWords-period k (p + 11) b)
-
--- where w words fill the ring, twice as many are those words twice
-pub validWords-twice : (w p : ℕ) (b : List ℕ) → 11 * w ≡ length b → validWords (2 * w) p b ≡ validWords w p b ++ validWords w p b
-validWords-twice w p b e =
-    let count : 2 * w ≡ w + w = omega arith in
-    ap (λ (x : ℕ). validWords x p b) count ∙ validWords-append w w p b
-    ∙ ap (λ (l : List Bool). validWords w p b ++ l) (ap (λ (x : ℕ). validWords w (p + x) b) e ∙ validWords-period w p b)

@@ -1,7 +1,7 @@
 -- Runs of valid words, on a strip and round a ring (document 01, "Four conditions of a proper telegram").
 -- Assumes nothing.
-use Prim.Native.Nat.{ℕ, zero, suc, _+_, _*_, max}
-use mathlib.Core.Bool.{Bool, true, false, cond}
+use Prim.Native.Nat.{ℕ, zero, suc, _+_, max}
+use mathlib.Core.Bool.{Bool, true, false}
 use mathlib.Core.List.{List, [], _∷_, _++_}
 use Rattle.bits.specs.Bits.{around}
 use Rattle.words.specs.Words.{isWord}
@@ -24,8 +24,3 @@ longest s = longestAfter 0 s
 -- the longest run round a ring; twice its words where all are valid
 abbrev pub longestRound : List Bool → ℕ
 longestRound s = longest (s ++ s)
-
--- of k words from place p on, round the ring of b, how many there are up to and with the last invalid one; 0 where all are valid
-unfoldable pub upToInvalid : ℕ → ℕ → List ℕ → ℕ
-upToInvalid zero p b = 0
-upToInvalid (suc k) p b = cond (isWord (around 11 (p + 11 * k) b)) (upToInvalid k p b) (suc k)

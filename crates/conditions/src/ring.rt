@@ -11,7 +11,7 @@ pub fn place_after(p: usize, k: usize, n: usize) -> usize
     requires { ⌜ (p < n) × (k ≤ n) ⌝ }
     ensures { λ r. ⌜ r ≡ (p + k) % n ⌝ }
 {
-    if k < n - p { p + k } else { k - (n - p) }
+    if p < n - k { p + k } else { p - (n - k) }
 }
 
 // The number of the 11 bits from place p on, bit by bit.

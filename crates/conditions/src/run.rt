@@ -4,7 +4,8 @@ ghost use Prim.Native.Nat.{_*_, _≤_, _<_};
 ghost use lib.Dec.{T, leb};
 ghost use lib.ListN.{length};
 ghost use Rattle.bits.specs.Bits.{allBits};
-ghost use Rattle.conditions.specs.Runs.{validWords, longestRound, upToInvalid};
+ghost use Rattle.conditions.specs.Runs.{validWords, longestRound};
+ghost use Rattle.conditions.specs.UpToInvalid.{upToInvalid};
 use crate::ring;
 
 // Of count words from place p on, going round, how many there are up to and with the last invalid one; 0 where all are valid.
@@ -22,8 +23,8 @@ fn up_to_invalid(b: &[u8], p: usize, count: usize) -> usize
     0
 }
 
-// Whether no run of valid words round the ring, whose words from place p on are `words`, exceeds limit. A longer run begins at one of
-// these words, and its first span words are valid: so of span words none up to the last invalid one begins such a run.
+// Whether no run of valid words round the ring, whose words from place p on are `words`, exceeds limit. A run that does begins at one of
+// these words, with span valid ones: none of the next span words up to the last invalid one can begin it.
 pub fn within(b: &[u8], p: usize, words: usize, limit: usize) -> bool
     requires { ⌜ T (allBits (now b)) × (p < length (now b)) ⌝ }
     requires { ⌜ (11 * words ≡ length (now b)) × (limit < words) ⌝ }

@@ -5,7 +5,7 @@ ghost use Prim.Native.Nat.{_≤_, _<_};
 ghost use lib.Dec.{T};
 ghost use lib.ListN.{length, drop};
 ghost use Rattle.bits.specs.Bits.{allBits};
-ghost use Rattle.formats.specs.Numbers.{long, numbersOf};
+ghost use Rattle.formats.specs.Numbers.{numbersOf};
 ghost use Rattle.conditions.specs.Conditions.{fromTo, thinnedBelow, thinnedAt, thinnedBy, thinnedWithin};
 use crate::ring;
 use crate::run;

@@ -8,11 +8,11 @@ use Rattle.conditions.proofs.ring.place_after.Statement.{statement}
 use Rattle.conditions.proofs.ring.place_after.Tie as tie
 
 -- the end is passed
-past : (p k n : ℕ) → p < n → k ≤ n → n - p ≤ k → k - (n - p) ≡ (p + k) % n
+past : (p k n : ℕ) → p < n → k ≤ n → n - k ≤ p → p - (n - k) ≡ (p + k) % n
 past p k n h l g =
-    let sum : p + k ≡ (k - (n - p)) + n = omega arith in
-    let small : k - (n - p) < n = omega arith in
-    sym (ap (λ (x : ℕ). x % n) sum ∙ add-mod-right (k - (n - p)) n ∙ mod-eq-of-lt small)
+    let sum : p + k ≡ (p - (n - k)) + n = omega arith in
+    let small : p - (n - k) < n = omega arith in
+    sym (ap (λ (x : ℕ). x % n) sum ∙ add-mod-right (p - (n - k)) n ∙ mod-eq-of-lt small)
 
 sub-if1 : tie.Need-sub-if1
 sub-if1 c = search needs

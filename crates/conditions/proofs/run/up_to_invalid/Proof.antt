@@ -1,16 +1,14 @@
 -- `conditions::run::up_to_invalid` meets its contract. The loop's invariant: the words from `left` on are valid, so that those before decide.
 -- Assumes nothing.
 use mathlib.Core.Path.{_≡_, refl, sym, ap, _∙_}
-use mathlib.Core.Bool.{Bool}
 use mathlib.Core.List.{List}
-use Prim.Native.Nat.{ℕ, suc, _+_, _-_, _*_, _%_, _≤_, _<_}
+use Prim.Native.Nat.{ℕ, suc, _+_, _-_, _*_, _≤_}
 use native.Mathlib.Nat.{mod-lt}
 use native.Mathlib.Omega.{arith}
 use borrow.Author.Tests.{not-true, not-false}
-use lib.ListN.{length}
 use Rattle.bits.specs.Bits.{around}
 use Rattle.words.specs.Words.{isWord}
-use Rattle.conditions.specs.Runs.{upToInvalid}
+use Rattle.conditions.specs.UpToInvalid.{upToInvalid}
 use Rattle.conditions.proofs.Round.{around-mod}
 use Rattle.conditions.proofs.UpToInvalid.{last-valid, last-invalid}
 use Rattle.conditions.proofs.run.up_to_invalid.Statement.{statement}

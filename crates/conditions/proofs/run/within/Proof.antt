@@ -4,11 +4,12 @@ use mathlib.Core.List.{List}
 use Prim.Native.Nat.{ℕ, _+_, _-_, _*_, _≤_, _<_}
 use native.Mathlib.Nat.{mod-lt}
 use native.Mathlib.Omega.{arith}
-use borrow.Author.Needs.{needs}
 use lib.Dec.{leb}
 use lib.ListN.{length}
-use Rattle.conditions.specs.Runs.{validWords, longestRound, upToInvalid}
-use Rattle.conditions.proofs.UpToInvalid.{up-to-most, Sought, sought-none, sought-more, sought-fails, sought-done}
+use Rattle.conditions.specs.Runs.{validWords, longestRound}
+use Rattle.conditions.specs.UpToInvalid.{upToInvalid}
+use Rattle.conditions.proofs.Sought.{Sought, sought-none, sought-more, sought-fails, sought-done}
+use Rattle.conditions.proofs.UpToInvalid.{up-to-most}
 use Rattle.conditions.proofs.run.within.Statement.{statement}
 use Rattle.conditions.proofs.run.within.Tie as tie
 
@@ -47,7 +48,7 @@ module _ (c : tie.After-up-to-invalid Inv-loop μ-loop) where
   answered : upToInvalid (limit + 1) at b ≡ c .up-to-invalid .result
   answered = sym (c .up-to-invalid .ensures ∙ ap (λ (k : ℕ). upToInvalid k at b) (c .before .before .loop .inv .0))
 
-  -- they are no more than the ring's
+  -- no more than that many
   few : c .up-to-invalid .result ≤ limit + 1
   few = omega (arith, answered, up-to-most at b (limit + 1))
 
