@@ -206,37 +206,56 @@ fn user_bits(format: Format, telegram: &[u8], output: &mut [u8]) -> Result<u16, 
 
 /// The place after another on a ring of n, by at most n.
 fn place_after(place: usize, by: usize, n: usize) -> usize {
-    let sum = place + by;
-    if sum < n {
-        sum
+    if place < n - by {
+        place + by
     } else {
-        sum - n
+        place - (n - by)
     }
 }
 
-/// Whether the eleven bits from a place on, going round, are in the table.
-fn is_word(bits: &[u8], place: usize) -> bool {
-    let (mut word, mut at) = (0, place);
-    for _ in 0..11 {
-        word = word << 1 | usize::from(bits[at]);
-        at = place_after(at, 1, bits.len());
-    }
-    NUMBERS[word] != NO_NUMBER
+/// Which of the 2,048 words are in the table.
+static VALID: LazyLock<[bool; 2048]> = LazyLock::new(|| NUMBERS.map(|number| number != NO_NUMBER));
+
+/// The number of eight bits. The product has them side by side in its top byte;
+/// no two of its terms meet.
+fn eight(bits: &[u8]) -> usize {
+    let bits = u64::from_le_bytes(bits.try_into().expect("eight bits"));
+    (bits.wrapping_mul(0x8040_2010_0804_0201) >> 56) as usize
 }
 
-/// The longest run of table words among `count` from a place on, going round.
-fn longest_run(bits: &[u8], place: usize, count: usize) -> usize {
-    let (mut longest, mut run, mut at) = (0, 0, place);
-    for _ in 0..count {
-        if is_word(bits, at) {
-            run += 1;
-        } else {
-            longest = longest.max(run);
-            run = 0;
-        }
-        at = place_after(at, 11, bits.len());
+/// Whether eleven bits are a word of the table.
+fn is_word(valid: &[bool; 2048], bits: &[u8]) -> bool {
+    valid[eight(&bits[..8]) << 3 | eight(&bits[3..11]) & 7]
+}
+
+/// Room for a telegram twice, one after the other: no word of its ring crosses
+/// an end there.
+const TWICE: usize = 2 * Format::Long.telegram_bits();
+
+/// Whether no run of table words is over a limit, round the ring from a place
+/// on. A run over the limit has limit+1 table words from one of the ring's words
+/// on; so the last of limit+1 words that is none rules out a run from each of
+/// them up to itself.
+fn runs_within(ring: &[u8; TWICE], place: usize, words: usize, limit: usize) -> bool {
+    let valid = &*VALID;
+    let no_word = |i: &usize| !is_word(valid, &ring[place + 11 * i..][..11]);
+    let mut i = 0;
+    while i < words {
+        let Some(last) = (i..=i + limit).rev().find(no_word) else {
+            return false;
+        };
+        i = last + 1;
     }
-    longest.max(run)
+    true
+}
+
+/// Condition 2.
+pub fn condition_2(format: Format, telegram: &[u8]) -> bool {
+    let n = telegram.len();
+    let mut ring = [0; TWICE];
+    ring[..n].copy_from_slice(telegram);
+    ring[n..2 * n].copy_from_slice(telegram);
+    (1..=10).all(|p| runs_within(&ring, p, format.words(), off_step_limit(p, format)))
 }
 
 /// The places in which 22 bits from one place and from another differ.
@@ -262,16 +281,40 @@ pub fn condition_3(format: Format, telegram: &[u8]) -> bool {
         })
 }
 
-/// Condition 4. Every run round a ring is on the ring walked twice.
-fn condition_4(format: Format, telegram: &[u8]) -> bool {
+/// Writes a telegram thinned: from b0 on by `STEP` places for each bit, going
+/// round `STEP` times.
+fn thin<const STEP: usize>(telegram: &[u8], out: &mut [u8]) {
     let n = telegram.len();
-    (1..=4).all(|k| {
-        let mut thinned = [0; Format::Long.telegram_bits()];
-        for (j, bit) in thinned[..n].iter_mut().rev().enumerate() {
-            *bit = telegram[n - 1 - (j << k) % n];
+    let mut out = out[..n].iter_mut();
+    let mut at = STEP - 1;
+    for _ in 0..STEP {
+        let round = telegram[at..].iter().step_by(STEP);
+        at = at + STEP * round.len() - n;
+        for (bit, out) in round.zip(out.by_ref()) {
+            *out = *bit;
         }
-        (0..11).all(|at| longest_run(&thinned[..n], at, 2 * format.words()) <= THINNED_RUN)
-    })
+    }
+}
+
+/// Condition 4 of the telegram thinned by `STEP`; the ring is overwritten.
+fn thinned_within<const STEP: usize>(
+    format: Format,
+    telegram: &[u8],
+    ring: &mut [u8; TWICE],
+) -> bool {
+    let n = telegram.len();
+    thin::<STEP>(telegram, ring);
+    ring.copy_within(..n, n);
+    (0..11).all(|at| runs_within(ring, at, format.words(), THINNED_RUN))
+}
+
+/// Condition 4.
+pub fn condition_4(format: Format, telegram: &[u8]) -> bool {
+    let mut ring = [0; TWICE];
+    thinned_within::<2>(format, telegram, &mut ring)
+        && thinned_within::<4>(format, telegram, &mut ring)
+        && thinned_within::<8>(format, telegram, &mut ring)
+        && thinned_within::<16>(format, telegram, &mut ring)
 }
 
 /// Checks a telegram, as the second program's `check`.
@@ -291,14 +334,9 @@ fn check_as<const F: u128, const G: u128>(format: Format, telegram: &[u8]) -> Re
         Err(refusal::TURN)
     } else if telegram[format.shaped_bits()..][..3] != CONTROL {
         Err(refusal::CONTROL)
-    } else if (0..telegram.len())
-        .step_by(11)
-        .any(|place| !is_word(telegram, place))
-    {
+    } else if telegram.chunks_exact(11).any(|word| !is_word(&VALID, word)) {
         Err(refusal::WORD)
-    } else if (1..=10)
-        .any(|p| longest_run(telegram, p, format.words() - 1) > off_step_limit(p, format))
-    {
+    } else if !condition_2(format, telegram) {
         Err(refusal::OFF_STEP)
     } else if !condition_3(format, telegram) {
         Err(refusal::PERIOD)

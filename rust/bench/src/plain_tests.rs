@@ -1,13 +1,16 @@
 //! Plain Rust's check and read against the proved calls and the second program.
 
-use crate::plain::{check, condition_3, read};
+use crate::plain::{check, condition_2, condition_3, condition_4, read};
 use compare::calls::{self, Tally};
 use compare::refusals::{provoking, Call};
 use compare::telegrams::*;
+use second::appendices::only_the_ring_refuses;
 use second::bits::{flip, turn_left};
-use second::conditions;
+use second::conditions::{self, off_step_limit, unthinned, THINNED_RUN};
 use second::format::{Format, FORMATS};
+use second::made::with_stretch;
 use second::random::Random;
+use second::rings::{one_run, ring_of_words, runs_about, words_as};
 use second::telegram::{cut, well_formed};
 
 /// Compares plain Rust's answer with that of the proved call and of the
@@ -52,6 +55,8 @@ fn telegrams(random: &mut Random, format: Format) -> Vec<Vec<u8>> {
         let draw = |random: &mut Random| few_words(random, format, kinds);
         list.push(drawn(random, format, draw, |t| well_formed(t, format)));
     }
+    let seam = only_the_ring_refuses().into_iter();
+    list.extend(seam.filter(|t| t.len() == format.telegram_bits()));
     if format == Format::Long {
         for (draw, number) in [(repeating_words as Draw, 11), (thinning_words, 12)] {
             list.extend((0..5).map(|_| barred(random, format, draw, number)));
@@ -98,5 +103,55 @@ fn condition_3_agrees_on_bits_that_repeat() {
             condition_3(Format::Long, &bits),
             conditions::condition_3(&bits, Format::Long)
         );
+    }
+}
+
+/// Rings about a limit: a run of the limit and of one word more from each word
+/// on, runs of about the limit all round, and a ring all valid.
+fn rings(random: &mut Random, words: usize, limit: usize) -> Vec<Vec<bool>> {
+    let mut rings = vec![vec![true; words]];
+    for first in 0..words {
+        rings.push(one_run(words, first, limit));
+        rings.push(one_run(words, first, limit + 1));
+        rings.push(runs_about(random, words, limit));
+    }
+    rings
+}
+
+#[test]
+fn condition_2_agrees_on_rings() {
+    let mut random = Random::new(6);
+    for format in FORMATS {
+        for p in 0..=10 {
+            let mut held = [0; 2];
+            let limit = off_step_limit(p.max(1), format);
+            for which in rings(&mut random, format.words(), limit) {
+                let ring = ring_of_words(&mut random, format, p, &which);
+                let holds = conditions::condition_2(&ring, format);
+                assert_eq!(condition_2(format, &ring), holds, "{p} {which:?}");
+                held[usize::from(holds)] += 1;
+            }
+            assert!(held[1] > 30 && (held[0] > 30 || p == 0), "{p} {held:?}");
+        }
+    }
+}
+
+#[test]
+fn condition_4_agrees_on_rings() {
+    let mut random = Random::new(7);
+    for format in FORMATS {
+        for k in 1..=4 {
+            let mut held = [0; 2];
+            for which in rings(&mut random, format.words(), THINNED_RUN) {
+                let alignment = random.below(11);
+                let words = words_as(&mut random, &which);
+                let v = with_stretch(format.telegram_bits(), alignment, &words);
+                let telegram = unthinned(&v, k);
+                let holds = conditions::condition_4(&telegram);
+                assert_eq!(condition_4(format, &telegram), holds, "{k} {alignment}");
+                held[usize::from(holds)] += 1;
+            }
+            assert!(held[0] > 30 && held[1] > 30, "{k} {held:?}");
+        }
     }
 }

@@ -4,11 +4,17 @@
 use compare::calls::{check, Tally};
 use compare::telegrams::*;
 use compare::{both_formats, burst, other_lengths, patterns};
-use second::appendices::appendix_b;
+use second::appendices::{appendix_b, only_the_ring_refuses};
 use second::bits::{bits_of, flip, turn_left};
+use second::conditions::{
+    condition_3, condition_4, off_step, off_step_limit, off_step_run, Course,
+};
 use second::cyclic::remainder_by_g;
+use second::encode::first_pair;
 use second::format::{Format, FORMATS};
 use second::random::Random;
+use second::read::user_bits_of;
+use second::rings::other_steps_hold;
 use second::telegram::{make, well_formed};
 
 /// Compares some telegrams.
@@ -155,6 +161,67 @@ fn telegrams() {
     tally.print("telegrams checked, by number");
     assert_eq!(tally.numbers(), [0, 1, 2, 6, 7, 8, 9, 10, 11, 12]);
     assert!(tally.total() >= 5_000);
+}
+
+/// A well-formed telegram that only condition 2 bars, and on the strip would
+/// not.
+fn refused_by_the_ring_alone(telegram: &[u8], format: Format) {
+    assert!(well_formed(telegram, format));
+    assert!(off_step(telegram, format, Course::Strip));
+    assert!(!off_step(telegram, format, Course::Ring));
+    assert!(condition_3(telegram, format));
+    assert!(condition_4(telegram));
+    assert_eq!(check(telegram), Err(10));
+}
+
+/// The rows of Appendix B whose first pair on the strip is an earlier one than
+/// the printed: that one's telegram is refused now.
+#[test]
+fn first_pairs_on_the_strip() {
+    let mut earlier = Vec::new();
+    for row in appendix_b() {
+        let (format, printed) = (row.format(), row.telegram_bits());
+        let user = user_bits_of(&printed, format).unwrap();
+        let pair = first_pair(&user, format, Course::Strip).unwrap();
+        if pair.telegram == printed {
+            continue;
+        }
+        refused_by_the_ring_alone(&pair.telegram, format);
+        let over: Vec<String> = (1..=10)
+            .map(|p| (p, off_step_run(&pair.telegram, p, Course::Ring)))
+            .filter(|&(p, run)| run > off_step_limit(p, format))
+            .map(|(p, run)| format!("{run} at p {p}"))
+            .collect();
+        println!(
+            "row {}, {}: {} {} refused with 10, runs round the ring: {}",
+            row.number,
+            format.name(),
+            pair.b,
+            pair.esb,
+            over.join(", ")
+        );
+        earlier.push(row.number);
+    }
+    assert_eq!(earlier, [1, 2, 3, 5, 8]);
+}
+
+/// The kept telegrams: of each format and for each p, a single run one word
+/// over the limit, across the seam.
+#[test]
+fn telegrams_that_only_the_ring_refuses() {
+    let kept = only_the_ring_refuses();
+    assert_eq!(kept.len(), 20);
+    let steps = FORMATS
+        .into_iter()
+        .flat_map(|format| (1..=10).map(move |p| (format, p)));
+    for (telegram, (format, p)) in kept.iter().zip(steps) {
+        assert_eq!(Format::of_telegram(telegram.len()), Some(format));
+        refused_by_the_ring_alone(telegram, format);
+        let limit = off_step_limit(p, format);
+        assert_eq!(off_step_run(telegram, p, Course::Ring), limit + 1);
+        assert!(off_step_run(telegram, p, Course::Strip) <= limit);
+        assert!(other_steps_hold(telegram, format, p));
+    }
 }
 
 #[test]

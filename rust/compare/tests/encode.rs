@@ -3,7 +3,6 @@
 use compare::calls::{encode, Encoder};
 use compare::{asked, both_formats, other_lengths, patterns};
 use second::appendices::{appendix_b, block_without_a_pair};
-use second::conditions::{off_step, Course};
 use second::encode::PAIRS;
 use second::format::Format;
 use second::random::Random;
@@ -42,38 +41,27 @@ fn random_short_blocks() {
     compare_random_blocks(Format::Short);
 }
 
-/// The first pair is the printed one in five rows. In the others an earlier one
-/// is proper on the strip and not round the ring, so that they tell the two
-/// apart.
+/// The first pair is the printed one in every row: of the printed block, its
+/// shortened run filled in, or in row 5 of the block that the telegram carries.
 #[test]
 fn blocks_of_appendix_b() {
     let mut random = Random::new(62);
-    let mut printed = Vec::new();
     for row in appendix_b() {
-        let (format, telegram) = (row.format(), row.telegram_bits());
+        let (number, format, telegram) = (row.number, row.format(), row.telegram_bits());
         let carried = user_bits_of(&telegram, format).unwrap();
         let (encoded, output) = compare_block(&mut random, &carried);
-        assert_eq!(encoded.format, format);
+        assert_eq!(encoded.format, format, "row {number}");
         let pair = (b_of(&telegram, format), esb_of(&telegram, format));
-        assert_eq!((encoded.b, encoded.esb) == pair, output == telegram);
-        assert!(off_step(&telegram, format, Course::Ring));
-        assert_eq!(
-            off_step(&output, format, Course::Ring),
-            output == telegram,
-            "row {}",
-            row.number
-        );
-        if output == telegram {
-            printed.push(row.number);
-        }
+        assert_eq!((encoded.b, encoded.esb), pair, "row {number}");
+        assert_eq!(output, telegram, "row {number}");
         // Row 5's block does not belong to its telegram.
         let filled = row.filled_user_bits();
-        assert_eq!(filled == carried, row.number != 5);
+        assert_eq!(filled == carried, number != 5, "row {number}");
         if filled != carried {
-            compare_block(&mut random, &filled);
+            let (_, output) = compare_block(&mut random, &filled);
+            assert_ne!(output, telegram, "row {number}");
         }
     }
-    assert_eq!(printed, [4, 6, 7, 9, 10]);
 }
 
 /// All 0, all 1, periods, and a single 1 or 0.

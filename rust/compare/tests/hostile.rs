@@ -5,7 +5,7 @@
 use compare::calls::{check, encode, read, search, Tally};
 use compare::telegrams::*;
 use compare::{asked, burst, patterns};
-use second::appendices::appendix_b;
+use second::appendices::{appendix_b, only_the_ring_refuses};
 use second::bits::all_bits;
 use second::encode_skipping;
 use second::format::{Format, FORMATS};
@@ -59,6 +59,7 @@ impl Inputs {
             let telegram = barred(&mut self.random, Format::Long, draw, number);
             self.telegrams.push(telegram);
         }
+        self.telegrams.extend(only_the_ring_refuses());
     }
 
     fn one_in(&mut self, count: usize) -> bool {

@@ -23,9 +23,11 @@ pub fn lines() -> Vec<String> {
         which("telegram proper as printed, so unturned", &rows, |t| {
             check(&t.row.telegram_bits()) == Ok(t.row.format())
         }),
-        which("condition 2 also round the ring", &rows, |t| {
-            off_step(&t.row.telegram_bits(), t.row.format(), Course::Ring)
-        }),
+        which(
+            "condition 2 also on the strip, as document 01 had it",
+            &rows,
+            |t| off_step(&t.row.telegram_bits(), t.row.format(), Course::Strip),
+        ),
         which("printed block too short by some bytes", &rows, |t| {
             t.row.missing_bytes() > 0
         }),
@@ -40,12 +42,16 @@ pub fn lines() -> Vec<String> {
         which("undoing the sum by adding gives the block", &rows, |t| {
             t.user_by_adding() == t.row.filled_user_bits()
         }),
-        which("first pair on the strip is the printed one", &rows, |t| {
-            t.strip.telegram == t.row.telegram_bits()
-        }),
-        which("first pair round the ring is the printed one", &rows, |t| {
-            t.ring.telegram == t.row.telegram_bits()
-        }),
+        which(
+            "first pair round the ring, the encoder's, is the printed one",
+            &rows,
+            |t| t.ring.telegram == t.row.telegram_bits(),
+        ),
+        which(
+            "first pair on the strip, as document 01 had it, is the printed one",
+            &rows,
+            |t| t.strip.telegram == t.row.telegram_bits(),
+        ),
     ];
     lines.extend(rows.iter().map(Tried::line));
     for tried in &rows {
@@ -113,15 +119,15 @@ impl Tried {
     fn line(&self) -> String {
         let (format, telegram) = (self.row.format(), self.row.telegram_bits());
         format!(
-            "row {}: {}, printed sb {} esb {}; first pair on the strip {} {}, round the ring {} {}; bytes FF missing {}; serial printed {}, carried {}",
+            "row {}: {}, printed sb {} esb {}; first pair round the ring {} {}, on the strip {} {}; bytes FF missing {}; serial printed {}, carried {}",
             self.row.number,
             format.name(),
             self.b(),
             esb_of(&telegram, format),
-            self.strip.b,
-            self.strip.esb,
             self.ring.b,
             self.ring.esb,
+            self.strip.b,
+            self.strip.esb,
             self.row.missing_bytes(),
             number_of(&self.row.filled_user_bits()[SERIAL]),
             number_of(&self.user[SERIAL]),

@@ -1,9 +1,11 @@
 //! Prints what the appendices of document 000 hold, computed by the second
-//! program: `report`. The text is the same at every run.
+//! program: `report`. The text is the same at every run. Condition 2 counts
+//! round the ring (document 02, No. 5) except where a line says "on the strip".
 
 mod appendix_a;
 mod appendix_b;
 mod appendix_c;
+mod ring;
 mod search;
 
 fn main() {
@@ -12,6 +14,7 @@ fn main() {
     section("Appendix C: remainders", &appendix_c::lines());
     section("The polynomials", &appendix_c::polynomial_lines());
     section("The search", &search::lines());
+    section("Telegrams that only the ring refuses", &ring::lines());
 }
 
 fn section(heading: &str, lines: &[String]) {

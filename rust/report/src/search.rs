@@ -19,7 +19,7 @@ pub fn lines() -> Vec<String> {
         .min();
     let block = block_without_a_pair();
     let refused = encode_skipping(&block, &mut [0; Format::Long.telegram_bits()]).err();
-    let ring = first_pair_skipping(&block, Format::Long, Course::Ring);
+    let strip = first_pair_skipping(&block, Format::Long, Course::Strip);
     let mut lines = vec![
         format!(
             "values of B whose words can be in the table: {}, the first {}",
@@ -28,10 +28,10 @@ pub fn lines() -> Vec<String> {
         ),
         format!("so a count is never below {}", least.unwrap_or(0)),
         format!(
-            "the long block without a pair: refusal {}, count {}; none round the ring: {}",
+            "the long block without a pair: refusal {}, count {}; none on the strip, as document 01 had it: {}",
             refused.map_or(0, |r| r.number),
             refused.map_or(0, |r| r.count),
-            answer(ring.is_none())
+            answer(strip.is_none())
         ),
     ];
     lines.extend(FORMATS.into_iter().map(counts));
@@ -47,14 +47,26 @@ fn lowest_esb(b: u16) -> Option<u16> {
 
 fn counts(format: Format) -> String {
     let mut random = Random::new(830);
+    let blocks: Vec<Vec<u8>> = (0..BLOCKS)
+        .map(|_| random.bits(format.user_bits()))
+        .collect();
     let mut output = [0; Format::Long.telegram_bits()];
-    let mut counts: Vec<u32> = (0..BLOCKS)
-        .filter_map(|_| encode_skipping(&random.bits(format.user_bits()), &mut output).ok())
+    let mut counts: Vec<u32> = blocks
+        .iter()
+        .filter_map(|block| encode_skipping(block, &mut output).ok())
         .map(|encoded| encoded.count)
         .collect();
     counts.sort_unstable();
+    let moved = blocks
+        .iter()
+        .filter(|block| {
+            let [strip, ring] = [Course::Strip, Course::Ring]
+                .map(|course| first_pair_skipping(block, format, course));
+            strip != ring
+        })
+        .count();
     format!(
-        "{BLOCKS} drawn {} blocks: {} with a pair, counts {} to {}, median {}",
+        "{BLOCKS} drawn {} blocks: {} with a pair, counts {} to {}, median {}; first pair another one on the strip: {moved}",
         format.name(),
         counts.len(),
         counts[0],

@@ -1,5 +1,5 @@
-//! Appendices B and C of document 000 as printed, and the long block without
-//! a pair, from the data files.
+//! Appendices B and C of document 000 as printed, the long block without a
+//! pair, and the telegrams that only the ring refuses, from the data files.
 
 use crate::bits::{of_text, unpack};
 use crate::format::{Format, FORMATS};
@@ -41,6 +41,16 @@ pub fn block_without_a_pair() -> Vec<u8> {
         "../../../data/long-block-without-a-pair.txt"
     ))
     .expect("a text of bits")
+}
+
+/// Telegrams that condition 2 alone bars, and on the strip did not: long ones,
+/// then short ones, for each p from 1 to 10 one with a run over the limit at
+/// that step.
+pub fn only_the_ring_refuses() -> Vec<Vec<u8>> {
+    include_str!("../../../data/strip-passes-ring-refuses.txt")
+        .lines()
+        .map(|line| of_text(line.as_bytes()).expect("a text of bits"))
+        .collect()
 }
 
 fn bytes_of_hex(text: &str) -> Vec<u8> {

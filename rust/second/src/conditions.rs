@@ -1,5 +1,6 @@
 //! Conditions 2, 3 and 4 of a proper telegram (document 01, "Four conditions
-//! of a proper telegram"). They look at any n bits, well-formed or not.
+//! of a proper telegram"; condition 2 by document 02, No. 5). They look at any
+//! n bits, well-formed or not.
 
 use crate::bits::distance;
 use crate::format::Format;
@@ -8,9 +9,10 @@ use crate::words::{self, valid, WORD_BITS};
 /// How condition 2 counts its runs.
 #[derive(Clone, Copy, Debug, PartialEq, Eq)]
 pub enum Course {
-    /// On the straight strip that ends at b0, as document 01 says.
+    /// On the straight strip that ends at b0, as document 01 had it before
+    /// document 02, No. 5. Only to compare with, and for parts of a telegram.
     Strip,
-    /// Round the ring of n/11 words, as document 02, No. 5, will have it.
+    /// Round the ring of n/11 words: the rule, by document 02, No. 5.
     Ring,
 }
 
@@ -48,7 +50,8 @@ fn longest_run_round(valid: &[bool]) -> usize {
 }
 
 /// The longest run of valid words cut from b(n-1-p) on. On the strip, a part
-/// of a telegram from its left end may stand for the telegram.
+/// of a telegram from its left end may stand for the telegram; a part is no
+/// ring.
 pub fn off_step_run(telegram: &[u8], p: usize, course: Course) -> usize {
     match course {
         Course::Strip => longest_run(&validity(&telegram[p..])),
@@ -61,9 +64,9 @@ pub fn off_step(telegram: &[u8], format: Format, course: Course) -> bool {
     (1..=10).all(|p| off_step_run(telegram, p, course) <= off_step_limit(p, format))
 }
 
-/// Condition 2, on the straight strip.
+/// Condition 2, round the ring. A ring all valid is longer than every limit.
 pub fn condition_2(telegram: &[u8], format: Format) -> bool {
-    off_step(telegram, format, Course::Strip)
+    off_step(telegram, format, Course::Ring)
 }
 
 /// The 22 bits b(i-1), b(i-2), .. of a telegram going round.

@@ -1,4 +1,5 @@
-//! Encoding a user block (document 01, "Search, reading and place").
+//! Encoding a user block (document 01, "Search, reading and place"; condition 2
+//! by document 02, No. 5).
 
 use crate::bits::all_bits;
 use crate::conditions::{condition_3, condition_4, off_step, Course};
@@ -61,8 +62,8 @@ pub fn first_pair(user: &[u8], format: Format, course: Course) -> Option<Pair> {
 }
 
 /// The same pair, found by dropping a B whose own word is not in the table or
-/// whose shaped data alone breaks condition 2. A run within the shaped data is
-/// one on the strip and on the ring.
+/// whose shaped data alone breaks condition 2. The shaped data are a strip,
+/// whatever the course: a run within them is one on the strip and on the ring.
 pub fn first_pair_skipping(user: &[u8], format: Format, course: Course) -> Option<Pair> {
     (0..B_VALUES)
         .filter(|&b| {
@@ -93,7 +94,7 @@ fn answer(
     if output.len() < format.telegram_bits() {
         return Err(refused(refusal::OUTPUT));
     }
-    let pair = search(input, format, Course::Strip).ok_or(Refused {
+    let pair = search(input, format, Course::Ring).ok_or(Refused {
         number: refusal::NO_PAIR,
         count: PAIRS,
     })?;

@@ -1,6 +1,6 @@
-//! The second program: document 01 written down once more, plainly, so that
-//! the main program can be compared with it. Bits are held one to a byte,
-//! 0 or 1, earliest sent first.
+//! The second program: document 01, as document 02, No. 5, amends it, written
+//! down once more, plainly, so that the main program can be compared with it.
+//! Bits are held one to a byte, 0 or 1, earliest sent first.
 
 pub mod appendices;
 pub mod bits;
@@ -14,6 +14,7 @@ pub mod made;
 pub mod random;
 pub mod read;
 pub mod refusal;
+pub mod rings;
 pub mod scrambling;
 pub mod telegram;
 pub mod words;

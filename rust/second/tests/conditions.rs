@@ -1,25 +1,17 @@
 //! The limits of conditions 2, 3 and 4 on made lists of n bits: runs 2 and 3,
-//! 6 and 7, 10 and 11, 30 and 31; differences 2 and 3, 1 and 2.
+//! 6 and 7, 10 and 11, 30 and 31, each also across the seam from b0 to b(n-1);
+//! differences 2 and 3, 1 and 2.
 
 use second::conditions::*;
 use second::format::{Format, FORMATS};
 use second::made::{valid_words, with_stretch};
 use second::random::Random;
+use second::rings::{one_run, ring_of_words};
 
-/// n bits with a run of just `run` words at step p from word `first`, and no
-/// run over 2 at other steps.
+/// n bits with a run of just `run` words at step p from word `first` on, going
+/// round, at which the other steps hold.
 fn with_run(random: &mut Random, format: Format, p: usize, first: usize, run: usize) -> Vec<u8> {
-    loop {
-        let stretch = valid_words(random, run);
-        let bits = with_stretch(format.telegram_bits(), p + 11 * first, &stretch);
-        let others = (1..=10).filter(|&q| q != p);
-        if others
-            .clone()
-            .all(|q| off_step_run(&bits, q, Course::Ring) <= off_step_limit(q, format))
-        {
-            return bits;
-        }
-    }
+    ring_of_words(random, format, p, &one_run(format.words(), first, run))
 }
 
 #[test]
@@ -34,6 +26,7 @@ fn off_step_limits() {
     }
 }
 
+/// A run on the strip is the same run round the ring.
 #[test]
 fn off_step_runs() {
     let mut random = Random::new(10);
@@ -46,72 +39,78 @@ fn off_step_runs() {
                     let bits = with_run(&mut random, format, p, first, run);
                     assert_eq!(off_step_run(&bits, p, Course::Strip), run);
                     assert_eq!(off_step_run(&bits, p, Course::Ring), run);
+                    assert_eq!(off_step(&bits, format, Course::Strip), run <= limit);
                     assert_eq!(condition_2(&bits, format), run <= limit);
-                    assert_eq!(off_step(&bits, format, Course::Ring), run <= limit);
                 }
             }
         }
     }
 }
 
-/// The word over the end counts on the ring and not on the strip.
+/// Runs across the seam, with each number of words before the word that
+/// crosses it. On the strip that word does not count, and cuts the run in two.
 #[test]
-fn off_step_runs_over_the_end() {
+fn off_step_runs_across_the_seam() {
     let mut random = Random::new(11);
     for format in FORMATS {
-        let on_strip = format.words() - 1;
+        let crossing = format.words() - 1;
         for p in 1..=10 {
             let limit = off_step_limit(p, format);
-            let (before, run) = (limit / 2, limit + 1);
-            let bits = with_run(&mut random, format, p, on_strip - before, run);
-            assert_eq!(
-                off_step_run(&bits, p, Course::Strip),
-                before.max(run - before - 1)
-            );
-            assert_eq!(off_step_run(&bits, p, Course::Ring), run);
-            assert!(condition_2(&bits, format));
-            assert!(!off_step(&bits, format, Course::Ring));
+            for run in [limit, limit + 1] {
+                for before in 0..run {
+                    let after = run - 1 - before;
+                    let bits = with_run(&mut random, format, p, crossing - before, run);
+                    assert_eq!(off_step_run(&bits, p, Course::Strip), before.max(after));
+                    assert_eq!(off_step_run(&bits, p, Course::Ring), run);
+                    assert!(off_step(&bits, format, Course::Strip));
+                    assert_eq!(condition_2(&bits, format), run <= limit);
+                }
+            }
         }
     }
 }
 
-/// Two runs at the limit with one word that is not valid between.
+/// Runs at the limit all round the ring, with one word that is not valid after
+/// each, at every turn of the ring; so one of them crosses the seam.
 #[test]
 fn off_step_runs_apart() {
     let mut random = Random::new(12);
     for format in FORMATS {
-        let limit = off_step_limit(5, format);
-        let n = format.telegram_bits();
-        let bits = loop {
-            let two = [
-                valid_words(&mut random, limit),
-                vec![0; 11],
-                valid_words(&mut random, limit),
-            ];
-            let bits = with_stretch(n, 5, &two.concat());
-            if [1, 2, 3, 4, 6, 7, 8, 9, 10]
-                .iter()
-                .all(|&q| off_step_run(&bits, q, Course::Ring) <= off_step_limit(q, format))
-            {
-                break bits;
+        let words = format.words();
+        for p in 1..=10 {
+            let limit = off_step_limit(p, format);
+            for turn in 0..words {
+                let mut which: Vec<bool> = (1..=words)
+                    .map(|index| index % (limit + 1) != 0 && index < words)
+                    .collect();
+                which.rotate_right(turn);
+                let bits = ring_of_words(&mut random, format, p, &which);
+                assert_eq!(off_step_run(&bits, p, Course::Ring), limit);
+                assert!(condition_2(&bits, format));
             }
-        };
-        assert_eq!(off_step_run(&bits, 5, Course::Strip), limit);
-        assert!(condition_2(&bits, format));
+        }
     }
 }
 
-/// A list all valid at a step, on the strip and round the ring.
+/// A ring all valid at a step, and one with a single word that is not, at each
+/// place.
 #[test]
 fn off_step_all_valid() {
     let mut random = Random::new(13);
     for format in FORMATS {
-        let n = format.telegram_bits();
+        let words = format.words();
         for p in 1..=10 {
-            let bits = with_stretch(n, p, &valid_words(&mut random, format.words()));
-            assert_eq!(off_step_run(&bits, p, Course::Strip), format.words() - 1);
-            assert_eq!(off_step_run(&bits, p, Course::Ring), format.words());
+            let bits = ring_of_words(&mut random, format, p, &vec![true; words]);
+            assert_eq!(off_step_run(&bits, p, Course::Strip), words - 1);
+            assert_eq!(off_step_run(&bits, p, Course::Ring), words);
             assert!(!condition_2(&bits, format));
+            for place in 0..words {
+                let mut which = vec![true; words];
+                which[place] = false;
+                let bits = ring_of_words(&mut random, format, p, &which);
+                assert_eq!(off_step_run(&bits, p, Course::Ring), words - 1);
+                assert!(!condition_2(&bits, format));
+            }
         }
     }
 }

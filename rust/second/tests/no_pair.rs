@@ -20,11 +20,12 @@ fn skipping() {
     assert_eq!(PAIRS, 4096 * 1024);
 }
 
+/// Nor is there a pair on the strip, as document 01 had it.
 #[test]
-fn round_the_ring() {
+fn on_the_strip() {
     let block = block_without_a_pair();
     assert_eq!(
-        first_pair_skipping(&block, Format::Long, Course::Ring),
+        first_pair_skipping(&block, Format::Long, Course::Strip),
         None
     );
 }

@@ -7,7 +7,7 @@ use second::encode::first_pair_skipping;
 use second::read::{read_bits, scrambled_bits_of, user_bits_of};
 use second::scrambling::{restore_first, scramble_by_top_bit};
 use second::telegram::{b_of, cut, esb_of, make};
-use second::{check, encode, Reading};
+use second::{check, encode, Format, Reading};
 
 /// The user bits that a row's telegram carries.
 fn decoded(row: &Row) -> Vec<u8> {
@@ -38,13 +38,16 @@ fn first_pair_is_printed(row: &Row, course: Course) -> bool {
 
 const ALL: [usize; 10] = [1, 2, 3, 4, 5, 6, 7, 8, 9, 10];
 
+/// With condition 2 round the ring, and on the strip too.
 #[test]
 fn telegrams_are_proper() {
     assert_eq!(rows_where(|row| check(&row.telegram_bits()).is_ok()), ALL);
-    assert_eq!(
-        rows_where(|row| off_step(&row.telegram_bits(), row.format(), Course::Ring)),
-        ALL
-    );
+    for course in [Course::Strip, Course::Ring] {
+        assert_eq!(
+            rows_where(|row| off_step(&row.telegram_bits(), row.format(), course)),
+            ALL
+        );
+    }
     assert_eq!(
         rows_where(|row| row.spare_bits().iter().all(|&bit| bit == 0)),
         ALL
@@ -109,26 +112,63 @@ fn row_5_does_not_belong_together() {
     assert_ne!(pack(&decoded(row)), row.block);
 }
 
+/// Round the ring the first pair is the printed one in every row; on the strip,
+/// as document 01 had it, in five.
 #[test]
 fn first_pairs() {
-    assert_eq!(
-        rows_where(|row| first_pair_is_printed(row, Course::Strip)),
-        [4, 6, 7, 9, 10]
-    );
     assert_eq!(
         rows_where(|row| first_pair_is_printed(row, Course::Ring)),
         ALL
     );
+    assert_eq!(
+        rows_where(|row| first_pair_is_printed(row, Course::Strip)),
+        [4, 6, 7, 9, 10]
+    );
 }
 
+/// In the other five the first pair moved: an earlier one is proper on the
+/// strip, and condition 2 alone bars it round the ring.
+#[test]
+fn first_pairs_that_moved() {
+    let mut moved = Vec::new();
+    for row in appendix_b() {
+        let (user, format) = (decoded(&row), row.format());
+        let [strip, ring] = [Course::Strip, Course::Ring]
+            .map(|course| first_pair_skipping(&user, format, course).unwrap());
+        println!(
+            "row {}, {}: first pair on the strip {} {}, round the ring {} {}",
+            row.number,
+            format.name(),
+            strip.b,
+            strip.esb,
+            ring.b,
+            ring.esb
+        );
+        if strip != ring {
+            assert!((strip.b, strip.esb) < (ring.b, ring.esb));
+            assert_eq!(check(&strip.telegram), Err(10));
+            assert_eq!(check(&ring.telegram), Ok(format));
+            moved.push((row.number, format));
+        }
+    }
+    let numbers: Vec<usize> = moved.iter().map(|&(number, _)| number).collect();
+    assert_eq!(numbers, [1, 2, 3, 5, 8]);
+    assert!(moved.contains(&(1, Format::Short)));
+    assert!(moved.contains(&(8, Format::Long)));
+}
+
+/// The encoder gives every row's printed telegram.
 #[test]
 fn blocks_encode() {
     for row in appendix_b() {
-        let mut output = vec![9; row.format().telegram_bits() + 3];
+        let (number, format, printed) = (row.number, row.format(), row.telegram_bits());
+        let n = format.telegram_bits();
+        let mut output = vec![9; n + 3];
         let encoded = encode(&decoded(&row), &mut output).unwrap();
-        assert_eq!(encoded.format, row.format());
-        let telegram = output.split_off(row.format().telegram_bits());
-        assert_eq!(telegram, [9, 9, 9]);
-        assert_eq!(check(&output), Ok(row.format()));
+        assert_eq!(encoded.format, format, "row {number}");
+        assert_eq!(encoded.b, b_of(&printed, format), "row {number}");
+        assert_eq!(encoded.esb, esb_of(&printed, format), "row {number}");
+        assert_eq!(output.split_off(n), [9, 9, 9], "row {number}");
+        assert_eq!(output, printed, "row {number}");
     }
 }
