@@ -12,13 +12,10 @@ use Rattle.conditions.specs.UpToInvalid.{upToInvalid}
 use Rattle.conditions.proofs.Round.{validWords-one}
 
 module _ (p : ℕ) (b : List ℕ) where
-  pub last-valid : (k : ℕ) → isWord (around 11 (p + 11 * k) b) ≡ true → upToInvalid (suc k) p b ≡ upToInvalid k p b
+  -- by the last of the words
+  pub up-to-last : (k : ℕ) (t : Bool) → isWord (around 11 (p + 11 * k) b) ≡ t → upToInvalid (suc k) p b ≡ cond t (upToInvalid k p b) (suc k)
   unfolding upToInvalid
-  last-valid k e = ap (λ (t : Bool). cond t (upToInvalid k p b) (suc k)) e
-
-  pub last-invalid : (k : ℕ) → isWord (around 11 (p + 11 * k) b) ≡ false → upToInvalid (suc k) p b ≡ suc k
-  unfolding upToInvalid
-  last-invalid k e = ap (λ (t : Bool). cond t (upToInvalid k p b) (suc k)) e
+  up-to-last k t e = ap (λ (u : Bool). cond u (upToInvalid k p b) (suc k)) e
 
   -- where some word is invalid, the last such one is the word before those past it
   pub invalid-there : (k j : ℕ) → upToInvalid k p b ≡ suc j → (j < k) × (isWord (around 11 (p + 11 * j) b) ≡ false)
@@ -29,10 +26,10 @@ module _ (p : ℕ) (b : List ℕ) where
       go : (upToInvalid k p b ≡ suc j → (j < k) × (isWord (around 11 (p + 11 * j) b) ≡ false))
           → (t : Bool) → isWord (around 11 (p + 11 * k) b) ≡ t → (j < suc k) × (isWord (around 11 (p + 11 * j) b) ≡ false)
       go before true v =
-          let there = before (sym (last-valid k v) ∙ e) in
+          let there = before (sym (up-to-last k true v) ∙ e) in
           (omega (arith, there .0), there .1)
       go before false v =
-          let same : j ≡ k = omega (arith, last-invalid k v, e) in
+          let same : j ≡ k = omega (arith, up-to-last k false v, e) in
           (omega arith, rw same v)
 
   pub up-to-most : (k : ℕ) → upToInvalid k p b ≤ k
@@ -63,5 +60,5 @@ module _ (p : ℕ) (b : List ℕ) where
       go before true v =
           let more : suc (c + k) ≡ c + suc k = omega arith in
           ap (longestAfter c) (last-before k y ∙ ap (λ (t : Bool). validWords k p b ++ t ∷ y) v)
-          ∙ before (sym (last-valid k v) ∙ e) ∙ ap (λ (x : ℕ). longestAfter x y) more
-      go before false v = absurd (omega (arith, last-invalid k v, e))
+          ∙ before (sym (up-to-last k true v) ∙ e) ∙ ap (λ (x : ℕ). longestAfter x y) more
+      go before false v = absurd (omega (arith, up-to-last k false v, e))

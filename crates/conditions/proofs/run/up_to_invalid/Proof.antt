@@ -1,6 +1,7 @@
 -- `conditions::run::up_to_invalid` meets its contract. The loop's invariant: the words from `left` on are valid, so that those before decide.
 -- Assumes nothing.
 use mathlib.Core.Path.{_≡_, refl, sym, ap, _∙_}
+use mathlib.Core.Bool.{true, false}
 use mathlib.Core.List.{List}
 use Prim.Native.Nat.{ℕ, suc, _+_, _-_, _*_, _≤_}
 use native.Mathlib.Nat.{mod-lt}
@@ -10,7 +11,7 @@ use Rattle.bits.specs.Bits.{around}
 use Rattle.words.specs.Words.{isWord}
 use Rattle.conditions.specs.UpToInvalid.{upToInvalid}
 use Rattle.conditions.proofs.Round.{around-mod}
-use Rattle.conditions.proofs.UpToInvalid.{last-valid, last-invalid}
+use Rattle.conditions.proofs.UpToInvalid.{up-to-last}
 use Rattle.conditions.proofs.run.up_to_invalid.Statement.{statement}
 use Rattle.conditions.proofs.run.up_to_invalid.Tie as tie
 
@@ -61,7 +62,7 @@ returns c =
     let word = c .before in
     let l = word .before .before .before in
     sym (l .loop .inv .1 ∙ ap (λ (k : ℕ). upToInvalid k (p word) (b word)) (count word)
-    ∙ last-invalid (p word) (b word) (left word - 1) (looked-at word ∙ not-true _ (c .if1 .taken)) ∙ sym (count word))
+    ∙ up-to-last (p word) (b word) (left word - 1) false (looked-at word ∙ not-true _ (c .if1 .taken)) ∙ sym (count word))
 
 sub-left : tie.Need-sub-left Inv-loop μ-loop
 sub-left c = omega arith
@@ -75,7 +76,7 @@ loop-again c =
     let l = word .before .before .before in (
       omega arith,
       l .loop .inv .1 ∙ ap (λ (k : ℕ). upToInvalid k (p word) (b word)) (count word)
-          ∙ last-valid (p word) (b word) (left word - 1) (looked-at word ∙ not-false _ (c .if1 .left)),
+          ∙ up-to-last (p word) (b word) (left word - 1) true (looked-at word ∙ not-false _ (c .if1 .left)),
     )
 
 -- no word is left
