@@ -4,7 +4,7 @@ use mathlib.Core.Path.{_≡_, refl, sym, ap, ap₂, _∙_}
 use mathlib.Core.Bool.{Bool}
 use mathlib.Core.List.{List, [], _∷_, _++_}
 use Prim.Native.Nat.{ℕ, zero, suc, _+_, _-_, _*_, _%_, _≤_, _<_}
-use native.Mathlib.Nat.{mod-mod, mod-add-mod, mod-eq-of-lt}
+use native.Mathlib.Nat.{mod-mod, mod-add-mod, mod-eq-of-lt, mod-eq-sub-mod}
 use native.Mathlib.Numerals.{add-one}
 use native.Mathlib.Omega.{arith}
 use lib.ListN.{length, getD}
@@ -13,6 +13,12 @@ use Rattle.bits.proofs.Rest.{count-more, count-done}
 use Rattle.bits.proofs.Ring.{around-period}
 use Rattle.words.specs.Words.{isWord}
 use Rattle.conditions.specs.Runs.{validWords}
+
+-- a place once past the end
+pub mod-past : (x n : ℕ) → n ≤ x → x < n + n → x % n ≡ x - n
+mod-past x n past once =
+    let inside : x - n < n = omega arith in
+    mod-eq-sub-mod past ∙ mod-eq-of-lt inside
 
 -- places count modulo the length
 pub around-mod : (k p : ℕ) (b : List ℕ) → around k (p % length b) b ≡ around k p b

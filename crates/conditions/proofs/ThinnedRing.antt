@@ -2,7 +2,7 @@
 use mathlib.Core.Path.{_≡_, refl, sym, ap, _∙_}
 use mathlib.Core.List.{List}
 use Prim.Native.Nat.{ℕ, zero, suc, _+_, _-_, _*_, _%_, _^_, _≤_, _<_}
-use native.Mathlib.Nat.{mod-lt, mod-add-mod, mod-eq-of-lt, add-mod-right}
+use native.Mathlib.Nat.{mod-lt, mod-add-mod, mod-eq-of-lt}
 use native.Mathlib.Decide.{decLt}
 use native.Mathlib.Omega.{arith}
 use lib.Dec.{T}
@@ -10,6 +10,7 @@ use lib.ListN.{length, getD}
 use Rattle.bits.specs.Bits.{allBits}
 use Rattle.bits.proofs.AllBits.{allBits-nil, allBits-cons, allBits-getD}
 use Rattle.conditions.specs.Conditions.{thinnedBelow, thinned}
+use Rattle.conditions.proofs.Round.{mod-past}
 
 pub length-thinnedBelow : (j step : ℕ) (b : List ℕ) → length (thinnedBelow j step b) ≡ j
 unfolding thinnedBelow
@@ -51,13 +52,9 @@ module _ (n j step : ℕ) (some : 0 < n) (short : step ≤ n) where
       let in-ring : n - 1 - r < n = omega arith in
       ap (λ (x : ℕ). x % n) at ∙ mod-eq-of-lt in-ring
   on (no over) =
-      let past : r + step ≡ r + step - n + n = omega arith in
-      let in-ring : r + step - n < n = omega (arith, small) in
-      let turned : (r + step) % n ≡ r + step - n =
-      ap (λ (x : ℕ). x % n) past ∙ add-mod-right (r + step - n) n ∙ mod-eq-of-lt in-ring in
+      let turned = mod-past (r + step) n (omega arith) (omega (arith, small)) in
       let at : n - 1 - (j + 1) * step % n + step ≡ n - 1 - r + n = omega (arith, before, turned, small) in
-      let before-end : n - 1 - r < n = omega arith in
-      ap (λ (x : ℕ). x % n) at ∙ add-mod-right (n - 1 - r) n ∙ mod-eq-of-lt before-end
+      omega (arith, ap (λ (x : ℕ). x % n) at, mod-past (n - 1 - r + n) n (omega arith) (omega arith))
 
   pub place-on : (n - 1 - (j + 1) * step % n + step) % n ≡ n - 1 - j * step % n
   place-on = on (decLt (r + step) n)
