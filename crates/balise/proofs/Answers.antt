@@ -1,6 +1,6 @@
 -- Whatever a call answers fits the fields of its number, and so is read back from it: B has twelve bits, esb and a turn have ten, a
 -- count has 23, and a place is within the limit. Assumes nothing.
-use mathlib.Core.Path.{_≡_, refl}
+use mathlib.Core.Path.{_≡_, refl, sym, ap, subst, _∙_}
 use mathlib.Core.Bool.{Bool, true, false, cond}
 use mathlib.Core.List.{List, _∷_}
 use Prim.Native.Nat.{ℕ, _≤_, _<_}
@@ -12,6 +12,7 @@ use Rattle.formats.specs.declared.format.Format.the-variants.{Long, Short}
 use Rattle.formats.specs.Numbers.{numbersOf}
 use Rattle.formats.proofs.Sizes.{telegram-between}
 use Rattle.refusals.specs.declared.Refusal.{Refusal}
+use Rattle.refusals.specs.Outcome.{Outcome, outcome}
 use Rattle.refusals.specs.Refused.{pairCount, refusalNumber, triedCount}
 use Rattle.refusals.specs.AnswerValues.{formatNumber, flippedNumber}
 use Rattle.refusals.proofs.Numbers.{number-fits}
@@ -22,16 +23,18 @@ use Rattle.encoder.proofs.Accepted.{encode-accepted}
 use Rattle.checker.specs.declared.Checked.{Checked}
 use Rattle.checker.specs.declared.Checked.the-variants.{Proper, Refused as NotProper}
 use Rattle.checker.specs.Checking.{checkedValues, checkOf}
+use Rattle.reader.specs.declared.Asked.{Asked}
+use Rattle.reader.specs.declared.Asked.the-variants.{Proper}
 use Rattle.reader.specs.declared.Reading.{Reading}
 use Rattle.reader.specs.declared.ReadAnswer.{ReadAnswer}
 use Rattle.reader.specs.declared.ReadAnswer.the-variants.{Read, Refused as NotRead}
-use Rattle.reader.specs.Reads.{readingValues, readValues, readOf}
+use Rattle.reader.specs.Reads.{readingValues, readValues, readBy}
 use Rattle.reader.proofs.Laws.{read-accepted}
 use Rattle.captures.specs.declared.Capture.{Capture}
 use Rattle.captures.specs.declared.Capture.the-variants.{Found, Refused as NotFound}
 use Rattle.captures.specs.Captures.{captureValues, windowAt, searchOf}
 use Rattle.captures.proofs.Exact.{searches}
-use Rattle.balise.specs.AsNumber.{encodedSizes, checkedSizes, readSizes, searchSizes, Fits, ReadBack}
+use Rattle.balise.specs.AsNumber.{packed, encodedSizes, checkedSizes, readSizes, searchSizes, Fits, ReadBack}
 use Rattle.balise.proofs.Fields.{fits-back}
 
 -- ---- single values
@@ -81,21 +84,33 @@ module _ (b : List ℕ) where
 
 -- ---- read
 
-module _ (w out : List ℕ) where
-  reading-fits : (reading : Reading) → readOf w out .answer ≡ Read reading → Fits readSizes (0 ∷ readingValues reading)
+module _ (asked : Asked) (w out : List ℕ) where
+  reading-fits : (reading : Reading) → readBy asked w out .answer ≡ Read reading → Fits readSizes (0 ∷ readingValues reading)
   reading-fits reading e =
-      let h = read-accepted w out reading e in
+      let h = read-accepted asked w out reading e in
       search (arith, format-fits (reading .format), flipped-fits (reading .flipped), telegram-between (reading .format), h .scrambling, h .turn)
 
-  pub read-fits : Fits readSizes (readValues (readOf w out .answer))
-  read-fits = go (readOf w out .answer) refl
+  pub read-fits : Fits readSizes (readValues (readBy asked w out .answer))
+  read-fits = go (readBy asked w out .answer) refl
     where
-      go : (a : ReadAnswer) → readOf w out .answer ≡ a → Fits readSizes (readValues a)
+      go : (a : ReadAnswer) → readBy asked w out .answer ≡ a → Fits readSizes (readValues a)
       go (Read reading) e = reading-fits reading e
       go (NotRead refusal) e = search (arith, number-fits refusal)
 
-  pub read-back : ReadBack readSizes (readValues (readOf w out .answer))
-  read-back = fits-back readSizes (readValues (readOf w out .answer)) read-fits
+  -- what a call answered, and what it left in the output
+  module _ (a : ReadAnswer) (o : List ℕ) (e : readBy asked w out ≡ outcome a o) where
+    pub answer-fits : Fits readSizes (readValues a)
+    answer-fits = subst (λ (x : Outcome ReadAnswer). Fits readSizes (readValues (x .answer))) e read-fits
+
+    pub answer-packed : (n : ℕ) → n ≡ packed readSizes (readValues a)
+        → (n ≡ packed readSizes (readValues (readBy asked w out .answer))) × (o ≡ readBy asked w out .output)
+    answer-packed n f = (
+      f ∙ ap (λ (x : Outcome ReadAnswer). packed readSizes (readValues (x .answer))) (sym e),
+      ap (λ (x : Outcome ReadAnswer). x .output) (sym e),
+    )
+
+  pub read-back : ReadBack readSizes (readValues (readBy asked w out .answer))
+  read-back = fits-back readSizes (readValues (readBy asked w out .answer)) read-fits
 
 -- ---- search
 
@@ -107,7 +122,7 @@ module _ (s : List ℕ) where
       let m = numbersOf (reading .format) .m in
       let out : List ℕ = replicate m 0 in
       let room : m ≤ length out = omega (arith, length-replicate {A = ℕ} m 0) in
-      let fits = reading-fits (windowAt (reading .format) s p) out reading (first .here .reads out room) in
+      let fits = reading-fits Proper (windowAt (reading .format) s p) out reading (first .here .reads out room) in
       let below : p < 65536 = omega (arith, searched .0, first .here .fits) in
       search (fits, below)
 

@@ -3,7 +3,7 @@
 ghost use mathlib.Core.Path.{_≡_};
 ghost use Rattle.encoder.specs.Encoding.{encodedValues, encodeOf};
 ghost use Rattle.checker.specs.Checking.{checkedValues, checkOf};
-ghost use Rattle.reader.specs.Reads.{readValues, readOf};
+ghost use Rattle.reader.specs.Reads.{readValues, readOf, readWellFormedOf};
 ghost use Rattle.captures.specs.Captures.{captureValues, searchOf};
 ghost use Rattle.balise.specs.AsNumber.{packed, encodedSizes, checkedSizes, readSizes, searchSizes};
 
@@ -28,13 +28,23 @@ pub extern "C" fn balise_check(telegram: &[u8]) -> u64
     as_number::checked(answer)
 }
 
-// Reads a window: its user bits over the front of output. A refusal keeps every byte of output.
+// Reads a window of a proper telegram: its user bits over the front of output. A refusal keeps every byte of output.
 #[no_mangle]
 pub extern "C" fn balise_read(window: &[u8], output: &mut [u8]) -> u64
     ensures answers { λ r. ⌜ r ≡ packed readSizes (readValues (readOf (now (window .entry)) (now (output .entry)) .answer)) ⌝ }
     ensures writes { λ _. ⌜ now (output .exit) ≡ readOf (now (window .entry)) (now (output .entry)) .output ⌝ }
 {
     let answer = reader::read(window, output);
+    as_number::read(answer)
+}
+
+// Reads a window of a telegram that need only be well-formed. Otherwise as balise_read.
+#[no_mangle]
+pub extern "C" fn balise_read_well_formed(window: &[u8], output: &mut [u8]) -> u64
+    ensures answers { λ r. ⌜ r ≡ packed readSizes (readValues (readWellFormedOf (now (window .entry)) (now (output .entry)) .answer)) ⌝ }
+    ensures writes { λ _. ⌜ now (output .exit) ≡ readWellFormedOf (now (window .entry)) (now (output .entry)) .output ⌝ }
+{
+    let answer = reader::read_well_formed(window, output);
     as_number::read(answer)
 }
 

@@ -12,6 +12,7 @@ use Rattle.formats.specs.declared.format.Format.the-variants.{Long, Short}
 use Rattle.formats.specs.Numbers.{numbersOf, windowBits}
 use Rattle.formats.proofs.Fits.{one-format, windows-apart}
 use Rattle.refusals.specs.Outcome.{Outcome}
+use Rattle.reader.specs.declared.Asked.the-variants.{Proper}
 use Rattle.reader.specs.declared.Reading.{Reading}
 use Rattle.reader.specs.declared.ReadAnswer.{ReadAnswer}
 use Rattle.reader.specs.Reads.{readingIn, readsAs}
@@ -26,7 +27,7 @@ module _ (format : Format) (s : List ℕ) (p : ℕ) where
   accepts-reads h =
       record {
         fits = accepts-fits format s p h;
-        reads = λ out room. ap (λ (x : Outcome ReadAnswer). x .answer) (reads-as format (windowAt format s p) out h room);
+        reads = λ out room. ap (λ (x : Outcome ReadAnswer). x .answer) (reads-as Proper format (windowAt format s p) out h room);
       }
 
   -- what reads there is accepted, and this is its reading
@@ -36,10 +37,10 @@ module _ (format : Format) (s : List ℕ) (p : ℕ) where
       let w = windowAt format s p in
       let zeros : List ℕ = replicate (numbersOf format .m) 0 in
       let room : numbersOf format .m ≤ length zeros = omega (arith, length-replicate {A = ℕ} (numbersOf format .m) 0) in
-      let known = read-accepted w zeros reading (h .reads zeros room) in
+      let known = read-accepted Proper w zeros reading (h .reads zeros room) in
       let same : reading .format ≡ format =
       one-format windowBits windows-apart (length w) (reading .format) format (known .size) (window-length format s p (h .fits)) in
-      subst (λ (f : Format). T (readsAs f w) × (reading ≡ readingIn f w)) same (known .accepted, known .reads)
+      subst (λ (f : Format). T (readsAs Proper f w) × (reading ≡ readingIn f w)) same (known .accepted, known .reads)
 
   pub not-accepted : acceptsAs format s p ≡ false → NotAt format s p
   not-accepted e reading h = fails (acceptsAs format s p) e (reads-accepts reading h .0)

@@ -11,6 +11,7 @@ use Rattle.formats.specs.Numbers.{numbersOf}
 use Rattle.formats.proofs.Sizes.{window-between}
 use Rattle.refusals.specs.declared.Refusal.{Refusal}
 use Rattle.refusals.specs.Outcome.{Outcome, outcome}
+use Rattle.reader.specs.declared.Asked.the-variants.{Proper}
 use Rattle.reader.specs.declared.Reading.{Reading}
 use Rattle.reader.specs.declared.ReadAnswer.the-variants.{Read, Refused}
 use Rattle.reader.specs.Reads.{endsAgree, readingIn, userBitsIn, readAs}
@@ -36,24 +37,24 @@ module _ (format : Format) (s : List ℕ) (p : ℕ) (out : List ℕ) where
   pub empty-tried : length (windowAt format s p) ≡ 0 → attemptOf format s p out ≡ outcome Nothing out
   unfolding acceptsAs
   empty-tried e =
-      tried-no (is-false (acceptsAs format s p) (λ t. absurd (omega (arith, e, reads-size format (windowAt format s p) t, window-between format))))
+      tried-no (is-false (acceptsAs format s p) (λ t. absurd (omega (arith, e, reads-size Proper format (windowAt format s p) t, window-between format))))
 
   pub differing-tried : endsAgree (numbersOf format) (windowAt format s p) ≡ false → attemptOf format s p out ≡ outcome Nothing out
   unfolding acceptsAs
-  differing-tried e = tried-no (ends-unread format (windowAt format s p) e)
+  differing-tried e = tried-no (ends-unread Proper format (windowAt format s p) e)
 
   pub refused-tried : (r : Refusal) (o : List ℕ) → numbersOf format .m ≤ length out
-      → readAs format (windowAt format s p) out ≡ outcome (Refused r) o → attemptOf format s p out ≡ outcome Nothing o
+      → readAs Proper format (windowAt format s p) out ≡ outcome (Refused r) o → attemptOf format s p out ≡ outcome Nothing o
   unfolding acceptsAs
   refused-tried r o room e =
-      let (kept, unread) = answered-refused format (windowAt format s p) out r o e in
+      let (kept, unread) = answered-refused Proper format (windowAt format s p) out r o e in
       tried-no (unread room) ∙ ap (outcome Nothing) (sym kept)
 
-  pub read-tried : (reading : Reading) (o : List ℕ) → readAs format (windowAt format s p) out ≡ outcome (Read reading) o
+  pub read-tried : (reading : Reading) (o : List ℕ) → readAs Proper format (windowAt format s p) out ≡ outcome (Read reading) o
       → attemptOf format s p out ≡ outcome (Reads reading) o
   unfolding acceptsAs
   read-tried reading o e =
-      let (h, room, reads, writes) = answered-read format (windowAt format s p) out reading o e in
+      let (h, room, reads, writes) = answered-read Proper format (windowAt format s p) out reading o e in
       tried-yes (is-true (acceptsAs format s p) h) ∙ rw (reads, writes)
 
   -- ---- what a try tells

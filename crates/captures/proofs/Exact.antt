@@ -23,6 +23,7 @@ use Rattle.refusals.specs.Refused.{refusalNumber}
 use Rattle.refusals.specs.Table.{Verdict, refused, accepted, verdict, answerBy, FirstApplies, RefusesBy, risesAbove, _when_}
 use Rattle.refusals.specs.Outcome.{Outcome, outcome}
 use Rattle.refusals.proofs.Table.{Decides, NoRow, accepted-no-row, passed, failed, all-passed, given, answer-by, answer-said, outcome-kept, refuses-by}
+use Rattle.reader.specs.declared.Asked.the-variants.{Proper}
 use Rattle.reader.specs.declared.Reading.{Reading}
 use Rattle.reader.specs.declared.ReadAnswer.{ReadAnswer}
 use Rattle.reader.specs.declared.ReadAnswer.the-variants.{Read}
@@ -242,7 +243,7 @@ module _ (s out : List ℕ) where
       → readOf (windowAt format s p) out
       ≡ outcome (Read (readingIn format (windowAt format s p))) (userBitsIn format (windowAt format s p) ++ drop (numbersOf format .m) out)
   unfolding acceptsAs
-  stretch-read p format h room = reads-as format (windowAt format s p) out h room
+  stretch-read p format h room = reads-as Proper format (windowAt format s p) out h room
 
   read-writes : (p : ℕ) (reading : Reading) → searchReadOf s out .answer ≡ Found p reading
       → searchReadOf s out .output ≡ readOf (stretchOf s) out .output

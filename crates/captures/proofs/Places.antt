@@ -17,6 +17,7 @@ use Rattle.formats.specs.declared.format.Format.{Format}
 use Rattle.formats.specs.declared.format.Format.the-variants.{Long, Short}
 use Rattle.formats.specs.Numbers.{short, numbersOf, windowBits}
 use Rattle.formats.proofs.Sizes.{window-between}
+use Rattle.reader.specs.declared.Asked.the-variants.{Proper}
 use Rattle.reader.proofs.Laws.{reads-size}
 use Rattle.captures.specs.Captures.{windowAt, acceptsAs, acceptsAt, firstPlace, formatAt}
 
@@ -56,7 +57,7 @@ module _ (format : Format) (s : List ℕ) (p : ℕ) where
   -- what is accepted fits
   pub accepts-fits : T (acceptsAs format s p) → p + windowBits (numbersOf format) ≤ length s
   unfolding acceptsAs
-  accepts-fits h = window-some (λ e. omega (arith, e, window-between format, reads-size format (windowAt format s p) h))
+  accepts-fits h = window-some (λ e. omega (arith, e, window-between format, reads-size Proper format (windowAt format s p) h))
 
   pub far-refused : length s < p + windowBits (numbersOf format) → acceptsAs format s p ≡ false
   far-refused h = is-false (acceptsAs format s p) (λ t. absurd (omega (arith, accepts-fits t)))

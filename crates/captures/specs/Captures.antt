@@ -16,6 +16,7 @@ use Rattle.refusals.specs.declared.Refusal.the-variants.{Length, NotBit, Output
 use Rattle.refusals.specs.Refused.{refusalNumber}
 use Rattle.refusals.specs.Table.{Row, _when_, verdict, answerBy, outcomeBy}
 use Rattle.refusals.specs.Outcome.{Outcome, outcome}
+use Rattle.reader.specs.declared.Asked.the-variants.{Proper}
 use Rattle.reader.specs.Reads.{readingValues, readingIn, userBitsIn, readsAs}
 use Rattle.captures.specs.declared.Capture.{Capture}
 use Rattle.captures.specs.declared.Capture.the-variants.{Found, Refused}
@@ -37,7 +38,7 @@ windowAt format s p =
 
 -- read, lent room, accepts it
 unfoldable pub acceptsAs : Format → List ℕ → ℕ → Bool
-acceptsAs format s p = readsAs format (windowAt format s p)
+acceptsAs format s p = readsAs Proper format (windowAt format s p)
 
 -- as a long window or as a short one
 unfoldable pub acceptsAt : List ℕ → ℕ → Bool

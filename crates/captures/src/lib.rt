@@ -11,6 +11,7 @@ ghost use Rattle.captures.specs.Attempts.{attemptOf, outFound};
 use formats::format;
 use formats::format::Format;
 use formats::format::Long;
+use reader::Asked;
 use reader::ReadAnswer;
 use reader::Reading;
 use reader::tested;
@@ -60,7 +61,7 @@ fn attempt(format: Format, capture: &[u8], place: usize, output: &mut [u8]) -> T
     if !tested::ends_agree(format, window) {
         return Tried::Nothing;
     }
-    let answer = tested::read_bits(format, window, output);
+    let answer = tested::read_bits(Asked::Proper, format, window, output);
     match answer {
         ReadAnswer::Read(reading) => Tried::Reads(reading),
         ReadAnswer::Refused(_) => Tried::Nothing,

@@ -5,25 +5,27 @@ use mathlib.Core.Path.{_≡_, refl, ap, subst, _∙_}
 use mathlib.Core.Bool.{Bool, false, not}
 use mathlib.Core.Logic.{_↔_}
 use mathlib.Core.List.{List}
+use native.Mathlib.Omega.{arith}
 use borrow.Author.Tests.{eqb-true, not-false}
 use lib.Dec.{T, eqb}
 use lib.ListN.{length}
 use Rattle.bits.specs.Bits.{allBits, same}
-use Rattle.bits.proofs.Tests.{clash, holds, is-true}
+use Rattle.bits.proofs.Tests.{clash, holds}
 use Rattle.formats.specs.declared.format.Format.{Format}
 use Rattle.formats.specs.Numbers.{numbersOf}
 use Rattle.refusals.specs.declared.Refusal.{Refusal}
 use Rattle.refusals.specs.Refused.{refusalNumber}
 use Rattle.refusals.specs.Table.{Verdict, refused, accepted, verdict, answerBy, RefusesBy, risesAbove}
-use Rattle.refusals.proofs.Table.{NoRow, accepted-no-row, passed, all-passed, answer-said, refuses-by}
+use Rattle.refusals.proofs.Table.{NoRow, accepted-no-row, no-row-accepted, answer-said, refuses-by}
 use Rattle.cyclic.specs.Check.{divisible, unturned}
 use Rattle.telegrams.specs.Telegram.{control}
 use Rattle.telegrams.specs.Fields.{controlOf, allWords}
-use Rattle.conditions.specs.Conditions.{offStepWithin, notRepeating, thinnedWithin, proper}
-use Rattle.conditions.proofs.Proper.{proper-parts, proper-from}
+use Rattle.conditions.specs.Conditions.{proper}
+use Rattle.conditions.specs.FirstFailing.{conditionTable}
+use Rattle.conditions.proofs.FirstFailing.{conditions-rise, proper-tested}
 use Rattle.checker.specs.declared.Checked.{Checked}
 use Rattle.checker.specs.declared.Checked.the-variants.{Proper, Refused}
-use Rattle.checker.specs.Checking.{formatOf, conditionTable, checkTable, checkAs, checkOf}
+use Rattle.checker.specs.Checking.{formatOf, checkTable, checkAs, checkOf}
 use Rattle.checker.specs.Checks.{Checks}
 use Rattle.checker.proofs.Steps.{decided, any-bytes, format-is}
 use Rattle.checker.proofs.WellFormed.{formed, well-formed, form-passed}
@@ -40,8 +42,8 @@ refused-only (Proper format) r e = clash cc
 refused-only (Refused q) r e = cc
 
 rises : (format : Format) (b : List ℕ) → T (risesAbove refusalNumber 0 (checkTable format b))
-unfolding risesAbove checkTable conditionTable
-rises format b = tt
+unfolding risesAbove checkTable
+rises format b = conditions-rise format b 9 (omega arith)
 
 said-is : (b : List ℕ) → said (checkOf b) ≡ verdict (checkTable (formatOf b) b)
 unfolding checkOf checkAs
@@ -58,24 +60,19 @@ held : (t : Bool) → not t ≡ false → T t
 held t e = holds t (not-false t e)
 
 no-row-proper : (format : Format) (b : List ℕ) → NoRow (checkTable format b) → T (proper format b)
-unfolding NoRow checkTable conditionTable
-no-row-proper format b (size, (bits, (divides, (turn, (controlled, (words, (within, (repeats, (thinned, rest))))))))) =
+unfolding NoRow checkTable
+no-row-proper format b (size, (bits, (divides, (turn, (controlled, (words, conditions)))))) =
     let F = numbersOf format in
-    proper-from format b
+    let formed = well-formed format b
     record {
-      well-formed = well-formed format b
-          record {
-            size = eqb-true (length b) (F .n) (not-false (eqb (length b) (F .n)) size);
-            bits = held (allBits b) bits;
-            divides = held (divisible F b) divides;
-            turn = held (unturned F b) turn;
-            has-control = held (same (controlOf F b) control) controlled;
-            all-words = held (allWords (F .words) b) words;
-          };
-      off-step = held (offStepWithin format b) within;
-      not-repeating = held (notRepeating format b) repeats;
-      thinned = held (thinnedWithin format b) thinned;
-    }
+      size = eqb-true (length b) (F .n) (not-false (eqb (length b) (F .n)) size);
+      bits = held (allBits b) bits;
+      divides = held (divisible F b) divides;
+      turn = held (unturned F b) turn;
+      has-control = held (same (controlOf F b) control) controlled;
+      all-words = held (allWords (F .words) b) words;
+    } in
+    proper-tested format b .1 (formed, no-row-accepted (conditionTable format b) conditions)
 
 accepted-proper : (format : Format) (b : List ℕ) (v : Verdict Refusal) → verdict (checkTable (formatOf b) b) ≡ v
     → answerBy Refused (Proper (formatOf b)) v ≡ Proper format → T (proper format b)
@@ -85,16 +82,11 @@ accepted-proper format b accepted e f =
     subst (λ (g : Format). T (proper g b)) same (no-row-proper (formatOf b) b (accepted-no-row (checkTable (formatOf b) b) e))
 
 proper-accepted : (format : Format) (b : List ℕ) → T (proper format b) → checkOf b ≡ Proper format
-unfolding conditionTable
 proper-accepted format b h =
-    let p = proper-parts format b h in
+    let (well, conditions) = proper-tested format b .0 h in
     any-bytes b
-    ∙ ap (λ (f : Format). checkAs f b) (format-is format b (formed format b (p .well-formed) .size))
-    ∙ decided format b accepted
-    (form-passed format b (p .well-formed) accepted
-    (passed (is-true (offStepWithin format b) (p .off-step))
-    (passed (is-true (notRepeating format b) (p .not-repeating))
-    (passed (is-true (thinnedWithin format b) (p .thinned)) all-passed))))
+    ∙ ap (λ (f : Format). checkAs f b) (format-is format b (formed format b well .size))
+    ∙ decided format b accepted (form-passed format b well accepted (record { verdict-is = conditions }))
 
 -- the proper telegrams are accepted, and no others
 accepts : (format : Format) (b : List ℕ) → (checkOf b ≡ Proper format) ↔ T (proper format b)

@@ -22,7 +22,8 @@ use Rattle.telegrams.proofs.WellFormed.{parts, from-parts}
 use Rattle.refusals.specs.declared.Refusal.{Refusal}
 use Rattle.refusals.specs.Table.{Verdict}
 use Rattle.refusals.proofs.Table.{Decides, passed}
-use Rattle.checker.specs.Checking.{conditionTable, checkTable}
+use Rattle.conditions.specs.FirstFailing.{conditionTable}
+use Rattle.checker.specs.Checking.{checkTable}
 
 pub record Formed (format : Format) (b : List ℕ) : Type 0 where
   pub size : length b ≡ numbersOf format .n

@@ -9,14 +9,14 @@ use Rattle.bits.specs.Bits.{allBits, same}
 use Rattle.formats.specs.declared.format.Format.{Format}
 use Rattle.formats.specs.Numbers.{short, numbersOf, formatFor}
 use Rattle.refusals.specs.declared.Refusal.{Refusal}
-use Rattle.refusals.specs.declared.Refusal.the-variants.{Length, NotBit, NotDivisible, NoTurn, Control, NotWord, OffStep, Repeating, Thinned}
+use Rattle.refusals.specs.declared.Refusal.the-variants.{Length, NotBit, NotDivisible, NoTurn, Control, NotWord}
 use Rattle.refusals.specs.Refused.{refusalNumber}
 use Rattle.refusals.specs.Table.{Row, _when_, verdict, answerBy}
 use Rattle.refusals.specs.AnswerValues.{formatNumber}
 use Rattle.cyclic.specs.Check.{divisible, unturned}
 use Rattle.telegrams.specs.Telegram.{control}
 use Rattle.telegrams.specs.Fields.{controlOf, allWords}
-use Rattle.conditions.specs.Conditions.{offStepWithin, notRepeating, thinnedWithin}
+use Rattle.conditions.specs.FirstFailing.{conditionTable}
 use Rattle.checker.specs.declared.Checked.{Checked}
 use Rattle.checker.specs.declared.Checked.the-variants.{Proper, Refused}
 
@@ -28,14 +28,6 @@ checkedValues (Refused refusal) = refusalNumber refusal ∷ []
 -- the format that the number of bytes picks
 abbrev pub formatOf : List ℕ → Format
 formatOf b = formatFor (short .n) (length b)
-
--- when refusals 10, 11 and 12 apply: condition 2, 3 or 4 fails
-unfoldable pub conditionTable : Format → List ℕ → List (Row Refusal)
-conditionTable format b =
-    OffStep when not (offStepWithin format b)
-    ∷ Repeating when not (notRepeating format b)
-    ∷ Thinned when not (thinnedWithin format b)
-    ∷ []
 
 -- when each refusal applies to bytes that are to be the format's telegram
 unfoldable pub checkTable : Format → List ℕ → List (Row Refusal)

@@ -6,9 +6,7 @@ ghost use Rattle.bits.specs.Bits.{allBits};
 ghost use Rattle.formats.specs.Numbers.{numbersOf};
 ghost use Rattle.telegrams.specs.Fields.{wellFormed};
 ghost use Rattle.checker.specs.Checking.{checkAs, checkOf};
-use conditions::off_step;
-use conditions::repeating;
-use conditions::thinned;
+use conditions::Failing;
 use cyclic::divisors;
 use formats::format;
 use formats::format::Format;
@@ -27,16 +25,11 @@ fn check_conditions(format: Format, telegram: &[u8]) -> Checked
     requires { ⌜ T (wellFormed (numbersOf format) (now telegram)) ⌝ }
     ensures { λ r. ⌜ r ≡ checkAs format (now (telegram .entry)) ⌝ }
 {
-    if !off_step::within(format, telegram) {
-        return Checked::Refused(Refusal::OffStep);
+    let failing = conditions::first_failing(format, telegram);
+    match failing {
+        Failing::First(refusal) => Checked::Refused(refusal),
+        Failing::None => Checked::Proper(format),
     }
-    if !repeating::not_repeating(format, telegram) {
-        return Checked::Refused(Refusal::Repeating);
-    }
-    if !thinned::within(format, telegram) {
-        return Checked::Refused(Refusal::Thinned);
-    }
-    Checked::Proper(format)
 }
 
 // Refusals 6 to 9 of as many bits as the format's telegram has, and then the conditions.

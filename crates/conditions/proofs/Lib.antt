@@ -1,11 +1,11 @@
 pub mod Apart
 pub mod Each
+pub mod FirstFailing
 pub mod Limits
 pub mod Longest
 pub mod Proper
 pub mod Round
 pub mod Runs
 pub mod Sought
-pub mod Tests
 pub mod ThinnedRing
 pub mod UpToInvalid

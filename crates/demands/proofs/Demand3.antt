@@ -23,6 +23,7 @@ use Rattle.encoder.specs.Encoding.{encodeOf}
 use Rattle.encoder.specs.FirstPair.{FirstProper}
 use Rattle.encoder.specs.Encodes.{wrotePair}
 use Rattle.encoder.proofs.FirstOrNone.{first-answered}
+use Rattle.reader.specs.declared.Asked.the-variants.{Proper}
 use Rattle.reader.specs.Windows.{oriented, cut}
 use Rattle.reader.specs.CutFrom.{CutFrom}
 use Rattle.reader.specs.Reads.{endsAgree, readAs, readOf}
@@ -46,13 +47,13 @@ encodes format u out s room =
 
 -- ---- windows of n + r bits
 
--- an undamaged window is cut from a well-formed telegram
+-- an undamaged window is cut from a proper telegram
 cut-from : (format : Format) (u : List ℕ) (B esb : ℕ) (b : List ℕ) → Wrote format u B esb b → (t : ℕ) → t < numbersOf format .n → (flipped : Bool)
-    → CutFrom format (cut (windowBits (numbersOf format)) t flipped b) B t flipped u
+    → CutFrom Proper format (cut (windowBits (numbersOf format)) t flipped b) B t flipped u
 cut-from format u B esb b wrote t below flipped =
     record {
       telegram = b;
-      well-formed = wrote-formed format u B esb b wrote;
+      as-asked = wrote-proper format u B esb b wrote;
       scrambling = wrote-scrambling format u B esb b wrote;
       userBits = wrote-userBits format u B esb b wrote;
       turn = below;
@@ -64,15 +65,15 @@ reads-back : (format : Format) (u : List ℕ) (B esb : ℕ) (b : List ℕ) → W
     → (t : ℕ) → t < numbersOf format .n → (flipped : Bool) (out : List ℕ) → numbersOf format .m ≤ length out
     → readOf (cut (windowBits (numbersOf format)) t flipped b) out ≡ gaveBlock format B t flipped u out
 reads-back format u B esb b wrote t below flipped out room =
-    cut-read format (cut (windowBits (numbersOf format)) t flipped b) out room B t flipped u (cut-from format u B esb b wrote t below flipped)
+    cut-read Proper format (cut (windowBits (numbersOf format)) t flipped b) out room B t flipped u (cut-from format u B esb b wrote t below flipped)
 
 -- undamaged windows that are the same bits come from one block, turn and orientation
 one-block : (format : Format) (u v : List ℕ) (B esb C e : ℕ) (b c : List ℕ) → Wrote format u B esb b → Wrote format v C e c
     → (s t : ℕ) → s < numbersOf format .n → t < numbersOf format .n → (f g : Bool)
     → cut (windowBits (numbersOf format)) s f b ≡ cut (windowBits (numbersOf format)) t g c → (u ≡ v) × (s ≡ t) × (f ≡ g)
 one-block format u v B esb C e b c wrote other s t p q f g same =
-    let second = subst⁻¹ (λ (w : List ℕ). CutFrom format w C t g v) same (cut-from format v C e c other t q g) in
-    let (blocks, pairs, turns, ways) = cut-once format _ B C s t f g u v (cut-from format u B esb b wrote s p f) second in
+    let second = subst⁻¹ (λ (w : List ℕ). CutFrom Proper format w C t g v) same (cut-from format v C e c other t q g) in
+    let (blocks, pairs, turns, ways) = cut-once Proper format _ B C s t f g u v (cut-from format u B esb b wrote s p f) second in
     (blocks, turns, ways)
 
 -- ---- a window of 462 bits of a long telegram
@@ -90,10 +91,10 @@ short-from-long : (u : List ℕ) (B esb : ℕ) (b : List ℕ) → Wrote Long u B
 short-from-long u B esb b wrote t below flipped w bits size few out =
     let h = parts long b (wrote-formed Long u B esb b wrote) in
     let apart = proper-parts Long b (wrote-proper Long u B esb b wrote) .not-repeating in
-    let fits = read-as Short w out size in
+    let fits = read-as Proper Short w out size in
     let are-bits = is-true (allBits w) bits in (
-      λ less. fits ∙ room-refused Short w out size are-bits less,
-      λ room. fits ∙ ends-refused Short w out size are-bits room (short-ends b (h .size) (h .bits) apart t flipped w size few),
+      λ less. fits ∙ room-refused Proper Short w out size are-bits less,
+      λ room. fits ∙ ends-refused Proper Short w out size are-bits room (short-ends b (h .size) (h .bits) apart t flipped w size few),
     )
 
 -- ---- a window of 1100 bits of a short telegram
@@ -112,10 +113,10 @@ long-from-short u B esb b wrote t below flipped out =
     let some : 0 < length b = omega (arith, h .size) in
     let code = formed-code Short flipped b (wrote-formed Short u B esb b wrote) in
     let are-bits = is-true (allBits w) (allBits-around 1100 t x bits) in
-    let fits : readOf (cut 1100 t flipped b) out ≡ readAs Long w out =
-    ap (λ (l : List ℕ). readOf l out) (cut-oriented 1100 t flipped b some) ∙ read-as Long w out (length-around 1100 t x) in (
-      λ less. fits ∙ room-refused Long w out (length-around 1100 t x) are-bits less,
-      λ room. fits ∙ turn-refused Long w out (length-around 1100 t x) are-bits room (rounds-agree x t bits size below code) (rounds-divisible x t bits size below code)
+    let fits : readOf (cut 1100 t flipped b) out ≡ readAs Proper Long w out =
+    ap (λ (l : List ℕ). readOf l out) (cut-oriented 1100 t flipped b some) ∙ read-as Proper Long w out (length-around 1100 t x) in (
+      λ less. fits ∙ room-refused Proper Long w out (length-around 1100 t x) are-bits less,
+      λ room. fits ∙ turn-refused Proper Long w out (length-around 1100 t x) are-bits room (rounds-agree x t bits size below code) (rounds-divisible x t bits size below code)
           (rounds-no-turn x t bits size below code),
     )
 

@@ -24,6 +24,7 @@ use Rattle.cyclic.specs.Check.{divisible}
 use Rattle.cyclic.proofs.Laws.{zeros}
 use Rattle.reader.specs.declared.ReadAnswer.{ReadAnswer}
 use Rattle.reader.specs.declared.ReadAnswer.the-variants.{Refused}
+use Rattle.reader.specs.declared.Asked.the-variants.{Proper}
 use Rattle.reader.specs.Reads.{readValues, endsAgree, readOf}
 use Rattle.reader.proofs.Steps.{any-window, read-as, ends-refused, turn-refused, length-refused}
 use Rattle.demands.specs.BenchSheet.{refusedRead, answers, sheet}
@@ -48,8 +49,8 @@ zeros-rest = refl
 
 zeros-read : readOf (replicate 462 0) (replicate 210 0) ≡ outcome (Refused NoTurn) (replicate 210 0)
 zeros-read =
-    read-as Short (replicate 462 0) (replicate 210 0) refl
-    ∙ turn-refused Short (replicate 462 0) (replicate 210 0) refl zeros-bits (lit≤ tt) zeros-ends zeros-divisible
+    read-as Proper Short (replicate 462 0) (replicate 210 0) refl
+    ∙ turn-refused Proper Short (replicate 462 0) (replicate 210 0) refl zeros-bits (lit≤ tt) zeros-ends zeros-divisible
     (zero-no-turn Short (replicate 462 0) zeros-rest)
 
 -- the number that a reading of w answers
@@ -75,14 +76,14 @@ last-ends = refl
 ends-differ : refusedRead last-1 ≡ 5
 ends-differ =
     read-number last-1 EndsDiffer
-    (read-as Short last-1 (replicate 210 0) refl ∙ ends-refused Short last-1 (replicate 210 0) refl last-bits (lit≤ tt) last-ends)
+    (read-as Proper Short last-1 (replicate 210 0) refl ∙ ends-refused Proper Short last-1 (replicate 210 0) refl last-bits (lit≤ tt) last-ends)
 
 -- W12: 461 zeros
 length-of-none : refusedRead (replicate 461 0) ≡ 1
 unfolding formatFor
 length-of-none =
     read-number (replicate 461 0) Length
-    (any-window (replicate 461 0) (replicate 210 0) ∙ length-refused Long (replicate 461 0) (replicate 210 0) (λ e. omega arith))
+    (any-window Proper (replicate 461 0) (replicate 210 0) ∙ length-refused Proper Long (replicate 461 0) (replicate 210 0) (λ e. omega arith))
 
 -- the sheet with these three left open
 open-sheet : ℕ → ℕ → ℕ → List ℕ

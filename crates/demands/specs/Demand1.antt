@@ -8,6 +8,7 @@ use Rattle.refusals.specs.Table.{RefusesBy}
 use Rattle.encoder.specs.Encodes.{EncodeAnswers}
 use Rattle.checker.specs.declared.Checked.the-variants.{Refused as NotProper}
 use Rattle.checker.specs.Checking.{formatOf, checkTable, checkOf}
+use Rattle.reader.specs.declared.Asked.the-variants.{WellFormed, Proper}
 use Rattle.reader.specs.ReadsExactly.{ReadAnswers}
 use Rattle.captures.specs.declared.Capture.the-variants.{Refused as NotFound}
 use Rattle.captures.specs.Captures.{searchTable, searchOf}
@@ -15,5 +16,6 @@ use Rattle.captures.specs.Captures.{searchTable, searchOf}
 pub record Demand1 : Type 0 where
   pub encode : (u out : List ℕ) → EncodeAnswers u out
   pub check : (b : List ℕ) → RefusesBy refusalNumber NotProper (checkTable (formatOf b) b) (checkOf b)
-  pub read : (w out : List ℕ) → ReadAnswers w out
+  pub read : (w out : List ℕ) → ReadAnswers Proper w out
+  pub readWellFormed : (w out : List ℕ) → ReadAnswers WellFormed w out
   pub search : (s : List ℕ) → RefusesBy refusalNumber NotFound (searchTable s) (searchOf s)

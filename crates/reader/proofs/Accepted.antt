@@ -13,14 +13,15 @@ use Rattle.formats.specs.declared.format.Format.{Format}
 use Rattle.formats.specs.Numbers.{numbersOf, windowBits}
 use Rattle.refusals.specs.declared.Refusal.{Refusal}
 use Rattle.refusals.specs.Table.{Verdict, accepted, refused, verdict, accepts}
-use Rattle.refusals.proofs.Table.{NoRow, accepted-no-row}
+use Rattle.refusals.proofs.Table.{NoRow, accepted-no-row, no-row-accepted}
 use Rattle.cyclic.specs.Check.{divisible}
 use Rattle.telegrams.specs.Telegram.{control}
 use Rattle.telegrams.specs.Fields.{controlOf, allWords}
-use Rattle.reader.specs.Reads.{endsAgree, turnFound, isTurn, turnIn, telegramIn, telegramTable, readTable, readsAs}
+use Rattle.reader.specs.declared.Asked.{Asked}
+use Rattle.reader.specs.Reads.{endsAgree, turnFound, isTurn, turnIn, telegramIn, askedTable, telegramTable, readTable, readsAs}
 
 -- a window of the format has passed every test
-pub record Passed (format : Format) (w : List ℕ) : Type 0 where
+pub record Passed (asked : Asked) (format : Format) (w : List ℕ) : Type 0 where
   pub size : length w ≡ windowBits (numbersOf format)
   pub bits : allBits w ≡ true
   pub ends : endsAgree (numbersOf format) w ≡ true
@@ -28,15 +29,16 @@ pub record Passed (format : Format) (w : List ℕ) : Type 0 where
   pub turn : isTurn (turnFound (numbersOf format) w) ≡ true
   pub controlled : same (controlOf (numbersOf format) (telegramIn (numbersOf format) (turnIn (numbersOf format) w) w)) control ≡ true
   pub worded : allWords (numbersOf format .words) (telegramIn (numbersOf format) (turnIn (numbersOf format) w) w) ≡ true
+  pub as-asked : verdict (askedTable asked format (telegramIn (numbersOf format) (turnIn (numbersOf format) w) w)) ≡ accepted
 
-module _ (format : Format) (room : ℕ) (w : List ℕ) where
+module _ (asked : Asked) (format : Format) (room : ℕ) (w : List ℕ) where
   -- where no refusal applies there is room, and every test is passed
-  pub accepted-passed : verdict (readTable format room w) ≡ accepted → (numbersOf format .m ≤ room) × Passed format w
+  pub accepted-passed : verdict (readTable asked format room w) ≡ accepted → (numbersOf format .m ≤ room) × Passed asked format w
   unfolding readTable telegramTable NoRow
   accepted-passed e =
       let F = numbersOf format in
       let b = telegramIn F (turnIn F w) w in
-      let (size, (bits, (roomy, (ends, (divided, (turn, (controlled, (worded, end)))))))) = accepted-no-row (readTable format room w) e in (
+      let (size, (bits, (roomy, (ends, (divided, (turn, (controlled, (worded, end)))))))) = accepted-no-row (readTable asked format room w) e in (
         leb-true (F .m) room (not-false (leb (F .m) room) roomy),
         record {
           size = eqb-true (length w) (windowBits F) (not-false (eqb (length w) (windowBits F)) size);
@@ -46,30 +48,31 @@ module _ (format : Format) (room : ℕ) (w : List ℕ) where
           turn = not-false (isTurn (turnFound F w)) turn;
           controlled = not-false (same (controlOf F b) control) controlled;
           worded = not-false (allWords (F .words) b) worded;
+          as-asked = no-row-accepted (askedTable asked format b) end;
         },
       )
 
   -- and the other way
-  pub passed-accepted : numbersOf format .m ≤ room → Passed format w → verdict (readTable format room w) ≡ accepted
+  pub passed-accepted : numbersOf format .m ≤ room → Passed asked format w → verdict (readTable asked format room w) ≡ accepted
   unfolding readTable telegramTable verdict
   passed-accepted h p =
       let F = numbersOf format in
-      rw (eq-eqb (length w) (windowBits F) (p .size), p .bits, le-leb (F .m) room h, p .ends, p .divided, p .turn, p .controlled, p .worded)
+      rw (eq-eqb (length w) (windowBits F) (p .size), p .bits, le-leb (F .m) room h, p .ends, p .divided, p .turn, p .controlled, p .worded, p .as-asked)
 
 -- all room is alike
-pub with-room : (format : Format) (w : List ℕ) (room : ℕ) → numbersOf format .m ≤ room
-    → verdict (readTable format room w) ≡ verdict (readTable format (numbersOf format .m) w)
+pub with-room : (asked : Asked) (format : Format) (w : List ℕ) (room : ℕ) → numbersOf format .m ≤ room
+    → verdict (readTable asked format room w) ≡ verdict (readTable asked format (numbersOf format .m) w)
 unfolding readTable verdict
-with-room format w room h = rw (le-leb (numbersOf format .m) room h, le-leb (numbersOf format .m) (numbersOf format .m) (le-refl (numbersOf format .m)))
+with-room asked format w room h = rw (le-leb (numbersOf format .m) room h, le-leb (numbersOf format .m) (numbersOf format .m) (le-refl (numbersOf format .m)))
 
 -- with room, a window is accepted exactly where it has passed every test
-pub reads-passed : (format : Format) (w : List ℕ) → T (readsAs format w) ↔ Passed format w
+pub reads-passed : (asked : Asked) (format : Format) (w : List ℕ) → T (readsAs asked format w) ↔ Passed asked format w
 unfolding readsAs
-reads-passed format w = (
-  forth (verdict (readTable format (numbersOf format .m) w)) refl,
-  λ p. rw (passed-accepted format (numbersOf format .m) w (le-refl (numbersOf format .m)) p) tt,
+reads-passed asked format w = (
+  forth (verdict (readTable asked format (numbersOf format .m) w)) refl,
+  λ p. rw (passed-accepted asked format (numbersOf format .m) w (le-refl (numbersOf format .m)) p) tt,
 )
   where
-    forth : (v : Verdict Refusal) → verdict (readTable format (numbersOf format .m) w) ≡ v → T (accepts v) → Passed format w
-    forth accepted e h = accepted-passed format (numbersOf format .m) w e .1
+    forth : (v : Verdict Refusal) → verdict (readTable asked format (numbersOf format .m) w) ≡ v → T (accepts v) → Passed asked format w
+    forth accepted e h = accepted-passed asked format (numbersOf format .m) w e .1
     forth (refused r) e h = absurd h

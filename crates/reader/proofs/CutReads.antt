@@ -1,4 +1,4 @@
--- A window that is cut from a well-formed telegram going round, upright or flipped, is accepted, and tells what that telegram carries.
+-- A window that is cut from a telegram that is as asked, going round, upright or flipped, is accepted, and tells what that telegram carries.
 -- Assumes nothing.
 use mathlib.Core.Path.{_≡_, refl, sym, ap, _∙_}
 use mathlib.Core.Bool.{Bool, true, false}
@@ -16,6 +16,7 @@ use Rattle.bits.proofs.Tests.{is-true}
 use Rattle.formats.specs.declared.format.Format.{Format}
 use Rattle.formats.specs.Numbers.{Numbers, numbersOf, windowBits, fOf, gOf, fgOf}
 use Rattle.formats.proofs.Sizes.{Sizes, sizesOf}
+use Rattle.refusals.specs.Table.{verdict}
 use Rattle.cyclic.specs.declared.Turn.the-variants.{At}
 use Rattle.cyclic.specs.Remainder.{remainder}
 use Rattle.cyclic.specs.Check.{gPadded, turned, turnOf, divisible}
@@ -25,12 +26,14 @@ use Rattle.telegrams.specs.Telegram.{control}
 use Rattle.telegrams.specs.Fields.{controlOf, scramblingOf, allWords, userBitsOf, wellFormed}
 use Rattle.telegrams.proofs.Checked.{checked-remainder}
 use Rattle.telegrams.proofs.WellFormed.{parts}
+use Rattle.reader.specs.declared.Asked.{Asked}
 use Rattle.reader.specs.declared.Reading.{Reading}
 use Rattle.reader.specs.Windows.{oriented}
-use Rattle.reader.specs.Reads.{endsAgree, turnFound, isTurn, turnIn, isFlipped, turnedBack, telegramIn, readingOf, readingIn, userBitsIn, readsAs}
-use Rattle.reader.specs.CutFrom.{CutFrom}
+use Rattle.reader.specs.Reads.{endsAgree, turnFound, isTurn, turnIn, isFlipped, turnedBack, telegramIn, readingOf, readingIn, userBitsIn, askedTable, readsAs}
+use Rattle.reader.specs.CutFrom.{isAsked, CutFrom}
 use Rattle.reader.proofs.Ends.{ends-agree}
 use Rattle.reader.proofs.Windows.{length-oriented, bits-oriented, oriented-twice, cut-oriented, ring-front, ring-ends}
+use Rattle.reader.proofs.AsAsked.{asked-tested}
 use Rattle.reader.proofs.Accepted.{reads-passed}
 
 -- ---- the flip
@@ -109,17 +112,18 @@ module _ (format : Format) (x : List ℕ) (t : ℕ) (bits : T (allBits x)) (size
 -- ---- the window cut from a telegram
 
 -- the window w is accepted as the format's, and tells B, turn and way up, and the user bits u
-pub record Tells (format : Format) (w : List ℕ) (B t : ℕ) (flipped : Bool) (u : List ℕ) : Type 0 where
-  pub accepted : T (readsAs format w)
+pub record Tells (asked : Asked) (format : Format) (w : List ℕ) (B t : ℕ) (flipped : Bool) (u : List ℕ) : Type 0 where
+  pub accepted : T (readsAs asked format w)
   pub reading : readingIn format w ≡ record { format = format; scrambling = B; turn = t; flipped = flipped }
   pub userBits : userBitsIn format w ≡ u
 
-module _ (format : Format) (b : List ℕ) (t : ℕ) (flipped : Bool) (formed : T (wellFormed (numbersOf format) b)) (below : t < numbersOf format .n) where
-  ring-tells : Tells format (around (windowBits (numbersOf format)) t (oriented flipped b)) (scramblingOf (numbersOf format) b) t flipped
+module _ (asked : Asked) (format : Format) (b : List ℕ) (t : ℕ) (flipped : Bool) (is : T (isAsked asked format b)) (below : t < numbersOf format .n) where
+  ring-tells : Tells asked format (around (windowBits (numbersOf format)) t (oriented flipped b)) (scramblingOf (numbersOf format) b) t flipped
       (userBitsOf (numbersOf format) b)
   unfolding readingIn readingOf userBitsIn turnIn telegramIn
   ring-tells =
       let F = numbersOf format in
+      let (formed, passes) = asked-tested asked format b .0 is in
       let h = parts F b formed in
       let x = oriented flipped b in
       let w = around (windowBits F) t x in
@@ -133,7 +137,7 @@ module _ (format : Format) (b : List ℕ) (t : ℕ) (flipped : Bool) (formed : T
       let telegram : telegramIn F (turnIn F w) w ≡ b = rw (turn, back, told) upright in
       record {
         accepted =
-            reads-passed format w .1
+            reads-passed asked format w .1
             (record {
               size = length-around (windowBits F) t x;
               bits = is-true (allBits w) (allBits-around (windowBits F) t x bits);
@@ -142,28 +146,30 @@ module _ (format : Format) (b : List ℕ) (t : ℕ) (flipped : Bool) (formed : T
               turn = ap isTurn turn;
               controlled = ap (λ (l : List ℕ). same (controlOf F l) control) telegram ∙ equal-same (controlOf F b) control (h .control-is);
               worded = ap (allWords (F .words)) telegram ∙ is-true (allWords (F .words) b) (h .all-words);
+              as-asked = ap (λ (l : List ℕ). verdict (askedTable asked format l)) telegram ∙ passes;
             });
         reading = rw (turn, back, told, upright);
         userBits = ap (userBitsOf F) telegram;
       }
 
-pub cut-tells : (format : Format) (w : List ℕ) (B t : ℕ) (flipped : Bool) (u : List ℕ) → CutFrom format w B t flipped u → Tells format w B t flipped u
-cut-tells format w B t flipped u c =
-    let F = numbersOf format in
-    let b = c .telegram in
-    let some : 0 < length b = omega (arith, parts F b (c .well-formed) .size, sizesOf format .n-is) in
-    rw (c .window ∙ cut-oriented (windowBits F) t flipped b some, ← c .scrambling, ← c .userBits)
-    (ring-tells format b t flipped (c .well-formed) (c .turn))
+module _ (asked : Asked) (format : Format) (w : List ℕ) where
+  pub cut-tells : (B t : ℕ) (flipped : Bool) (u : List ℕ) → CutFrom asked format w B t flipped u → Tells asked format w B t flipped u
+  cut-tells B t flipped u c =
+      let F = numbersOf format in
+      let b = c .telegram in
+      let some : 0 < length b = omega (arith, parts F b (asked-tested asked format b .0 (c .as-asked) .0) .size, sizesOf format .n-is) in
+      rw (c .window ∙ cut-oriented (windowBits F) t flipped b some, ← c .scrambling, ← c .userBits)
+      (ring-tells asked format b t flipped (c .as-asked) (c .turn))
 
--- so one window is cut from telegrams with one B and one block only, at one turn and one way up
-pub cut-once : (format : Format) (w : List ℕ) (B C s t : ℕ) (f g : Bool) (u v : List ℕ) → CutFrom format w B s f u → CutFrom format w C t g v
-    → (u ≡ v) × (B ≡ C) × (s ≡ t) × (f ≡ g)
-cut-once format w B C s t f g u v c d =
-    let one = cut-tells format w B s f u c in
-    let other = cut-tells format w C t g v d in
-    let readings = sym (one .reading) ∙ other .reading in (
-      sym (one .userBits) ∙ other .userBits,
-      ap (λ (r : Reading). r .scrambling) readings,
-      ap (λ (r : Reading). r .turn) readings,
-      ap (λ (r : Reading). r .flipped) readings,
-    )
+  -- so one window is cut from telegrams with one B and one block only, at one turn and one way up
+  pub cut-once : (B C s t : ℕ) (f g : Bool) (u v : List ℕ) → CutFrom asked format w B s f u → CutFrom asked format w C t g v
+      → (u ≡ v) × (B ≡ C) × (s ≡ t) × (f ≡ g)
+  cut-once B C s t f g u v c d =
+      let one = cut-tells B s f u c in
+      let other = cut-tells C t g v d in
+      let readings = sym (one .reading) ∙ other .reading in (
+        sym (one .userBits) ∙ other .userBits,
+        ap (λ (r : Reading). r .scrambling) readings,
+        ap (λ (r : Reading). r .turn) readings,
+        ap (λ (r : Reading). r .flipped) readings,
+      )

@@ -1,5 +1,5 @@
--- Reading means what it is to mean: it refuses by its table, accepts exactly the windows that are cut from a well-formed telegram, and gives
--- what that telegram carries. Assumes nothing.
+-- Reading means what it is to mean: it refuses by its table, accepts exactly the windows that are cut from a telegram that is as asked, and
+-- gives what that telegram carries; and read answers as read_well_formed does, or with the first condition that fails. Assumes nothing.
 use mathlib.Core.Path.{_≡_, refl, sym, ap, ap₂, _∙_}
 use mathlib.Core.Bool.{Bool}
 use mathlib.Core.List.{List, _++_}
@@ -18,10 +18,11 @@ use Rattle.refusals.specs.Outcome.{Outcome, outcome, FrontWritten}
 use Rattle.refusals.proofs.Table.{answer-by, answer-said, refuses-by}
 use Rattle.refusals.proofs.Fronts.{front-written}
 use Rattle.telegrams.proofs.Made.{length-userBits}
+use Rattle.reader.specs.declared.Asked.{Asked}
 use Rattle.reader.specs.declared.Reading.{Reading}
 use Rattle.reader.specs.declared.ReadAnswer.{ReadAnswer}
 use Rattle.reader.specs.declared.ReadAnswer.the-variants.{Read, Refused}
-use Rattle.reader.specs.Reads.{formatOf, turnIn, telegramIn, readTable, userBitsIn, readOut, readOf}
+use Rattle.reader.specs.Reads.{formatOf, turnIn, telegramIn, readTable, userBitsIn, readOut, readBy}
 use Rattle.reader.specs.CutFrom.{CutFrom}
 use Rattle.reader.specs.ReadsExactly.{gaveBlock, ReadAnswers, LentWindow, ReadsExactly}
 use Rattle.reader.proofs.Steps.{decided, any-window, read-as, rises}
@@ -41,10 +42,10 @@ refusal-said (Refused q) r e = cc
 refusal-said (Read reading) r e = clash cc
 
 -- is the table's verdict
-verdict-said : (w out : List ℕ) → said (readOf w out .answer) ≡ verdict (readTable (formatOf w) (length out) w)
-verdict-said w out =
-    let v = verdict (readTable (formatOf w) (length out) w) in
-    ap (λ (x : Outcome ReadAnswer). said (x .answer)) (any-window w out ∙ decided (formatOf w) w out v refl)
+verdict-said : (asked : Asked) (w out : List ℕ) → said (readBy asked w out .answer) ≡ verdict (readTable asked (formatOf w) (length out) w)
+verdict-said asked w out =
+    let v = verdict (readTable asked (formatOf w) (length out) w) in
+    ap (λ (x : Outcome ReadAnswer). said (x .answer)) (any-window asked w out ∙ decided asked (formatOf w) w out v refl)
     ∙ ap said (answer-by Refused out (readOut (formatOf w) w out) v)
     ∙ answer-said Refused said (λ r. refl) (readOut (formatOf w) w out .answer) refl v
 
@@ -56,36 +57,36 @@ fronts-same u v d e =
     let sizes : length u ≡ length v = omega (arith, length-append u d, length-append v d, ap length e) in
     sym (take-at u d (length u) refl) ∙ ap (take (length u)) e ∙ take-at v d (length u) (sym sizes)
 
-module _ (format : Format) (w out : List ℕ) where
+module _ (asked : Asked) (format : Format) (w out : List ℕ) where
   -- cut means accepted
-  pub cut-read : numbersOf format .m ≤ length out → (B t : ℕ) (flipped : Bool) (u : List ℕ) → CutFrom format w B t flipped u
-      → readOf w out ≡ gaveBlock format B t flipped u out
+  pub cut-read : numbersOf format .m ≤ length out → (B t : ℕ) (flipped : Bool) (u : List ℕ) → CutFrom asked format w B t flipped u
+      → readBy asked w out ≡ gaveBlock format B t flipped u out
   cut-read room B t flipped u c =
-      let k = cut-tells format w B t flipped u c in
-      reads-as format w out (k .accepted) room
+      let k = cut-tells asked format w B t flipped u c in
+      reads-as asked format w out (k .accepted) room
       ∙ ap₂ (λ (x : Reading) (l : List ℕ). outcome (Read x) (l ++ drop (numbersOf format .m) out)) (k .reading) (k .userBits)
 
   module _ (size : length w ≡ windowBits (numbersOf format)) where
     -- accepted means cut
-    read-cut : (reading : Reading) (o : List ℕ) → readOf w out ≡ outcome (Read reading) o
-        → CutFrom format w (reading .scrambling) (reading .turn) (reading .flipped) (userBitsIn format w)
+    read-cut : (reading : Reading) (o : List ℕ) → readBy asked w out ≡ outcome (Read reading) o
+        → CutFrom asked format w (reading .scrambling) (reading .turn) (reading .flipped) (userBitsIn format w)
         × (o ≡ userBitsIn format w ++ drop (numbersOf format .m) out)
     read-cut reading o e =
-        let (h, room, reads, writes) = answered-read format w out reading o (sym (read-as format w out size) ∙ e) in
-        (rw reads (reads-cut format w h), writes)
+        let (h, room, reads, writes) = answered-read asked format w out reading o (sym (read-as asked format w out size) ∙ e) in
+        (rw reads (reads-cut asked format w h), writes)
 
-    read-gave : (B t : ℕ) (flipped : Bool) (u : List ℕ) → readOf w out ≡ gaveBlock format B t flipped u out → CutFrom format w B t flipped u
+    read-gave : (B t : ℕ) (flipped : Bool) (u : List ℕ) → readBy asked w out ≡ gaveBlock format B t flipped u out → CutFrom asked format w B t flipped u
     read-gave B t flipped u e =
         let (cut, writes) = read-cut (record { format = format; scrambling = B; turn = t; flipped = flipped }) (gaveBlock format B t flipped u out .output) e in
         rw (fronts-same u (userBitsIn format w) (drop (numbersOf format .m) out) writes) cut
 
 -- ---- what is written
 
-front-over : (w out : List ℕ) (reading : Reading) → readOf w out .answer ≡ Read reading
-    → FrontWritten (numbersOf (reading .format) .m) out (readOf w out .output)
+front-over : (asked : Asked) (w out : List ℕ) (reading : Reading) → readBy asked w out .answer ≡ Read reading
+    → FrontWritten (numbersOf (reading .format) .m) out (readBy asked w out .output)
 unfolding userBitsIn
-front-over w out reading e =
-    let a = read-accepted w out reading e in
+front-over asked w out reading e =
+    let a = read-accepted asked w out reading e in
     let F = numbersOf (reading .format) in
     rw (a .writes)
     (front-written (F .m) (userBitsIn (reading .format) w) out
@@ -93,28 +94,28 @@ front-over w out reading e =
 
 -- ---- all of it
 
-pub read-answers : (w out : List ℕ) → ReadAnswers w out
-read-answers w out =
+pub read-answers : (asked : Asked) (w out : List ℕ) → ReadAnswers asked w out
+read-answers asked w out =
     record {
       refuses =
-          refuses-by Refused said (λ r. refl) refusal-said refusalNumber (readTable (formatOf w) (length out) w) (rises (formatOf w) (length out) w)
-          (readOf w out .answer) (verdict-said w out);
+          refuses-by Refused said (λ r. refl) refusal-said refusalNumber (readTable asked (formatOf w) (length out) w) (rises asked (formatOf w) (length out) w)
+          (readBy asked w out .answer) (verdict-said asked w out);
       keeps =
-          λ r e. answered-refused (formatOf w) w out r (readOf w out .output)
-          (sym (any-window w out) ∙ ap (λ (a : ReadAnswer). outcome a (readOf w out .output)) e) .0;
-      writes = front-over w out;
+          λ r e. answered-refused asked (formatOf w) w out r (readBy asked w out .output)
+          (sym (any-window asked w out) ∙ ap (λ (a : ReadAnswer). outcome a (readBy asked w out .output)) e) .0;
+      writes = front-over asked w out;
     }
 
-pub reads-exactly : (format : Format) (w out : List ℕ) → LentWindow format w out → ReadsExactly format w out
-reads-exactly format w out lent =
+pub reads-exactly : (asked : Asked) (format : Format) (w out : List ℕ) → LentWindow format w out → ReadsExactly asked format w out
+reads-exactly asked format w out lent =
     record {
       accepts = (
-        λ r. (r .0 .scrambling, r .0 .turn, r .0 .flipped, userBitsIn format w, read-cut format w out (lent .size) (r .0) (r .1) (r .2) .0),
+        λ r. (r .0 .scrambling, r .0 .turn, r .0 .flipped, userBitsIn format w, read-cut asked format w out (lent .size) (r .0) (r .1) (r .2) .0),
         λ c. (
           record { format = format; scrambling = c .0; turn = c .1; flipped = c .2 },
           gaveBlock format (c .0) (c .1) (c .2) (c .3) out .output,
-          cut-read format w out (lent .room) (c .0) (c .1) (c .2) (c .3) (c .4),
+          cut-read asked format w out (lent .room) (c .0) (c .1) (c .2) (c .3) (c .4),
         ),
       );
-      gives = λ B t flipped u. (read-gave format w out (lent .size) B t flipped u, cut-read format w out (lent .room) B t flipped u);
+      gives = λ B t flipped u. (read-gave asked format w out (lent .size) B t flipped u, cut-read asked format w out (lent .room) B t flipped u);
     }

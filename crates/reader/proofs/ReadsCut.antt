@@ -1,4 +1,4 @@
--- A window that is accepted is cut from a well-formed telegram going round, at the turn and the way up that it tells. Assumes nothing.
+-- A window that is accepted is cut from a telegram that is as asked, going round, at the turn and the way up that it tells. Assumes nothing.
 use mathlib.Core.Path.{_≡_, refl, sym, ap, _∙_}
 use mathlib.Core.List.{List}
 use Prim.Native.Nat.{ℕ, _≤_, _<_}
@@ -21,9 +21,11 @@ use Rattle.telegrams.specs.Telegram.{control}
 use Rattle.telegrams.specs.Fields.{controlOf, allWords, wellFormed}
 use Rattle.telegrams.proofs.Checked.{checked-remainder}
 use Rattle.telegrams.proofs.WellFormed.{from-parts}
+use Rattle.reader.specs.declared.Asked.{Asked}
 use Rattle.reader.specs.Windows.{oriented, cut}
 use Rattle.reader.specs.Reads.{turnIn, isFlipped, turnedBack, telegramIn, readingOf, readingIn, userBitsIn, readsAs}
 use Rattle.reader.specs.CutFrom.{CutFrom}
+use Rattle.reader.proofs.AsAsked.{asked-tested}
 use Rattle.reader.proofs.Ends.{ends-repeat}
 use Rattle.reader.proofs.Windows.{oriented-twice, cut-oriented, window-of}
 use Rattle.reader.proofs.Accepted.{Passed, reads-passed}
@@ -32,7 +34,7 @@ use Rattle.reader.proofs.CutReads.{oriented-fg}
 use Rattle.reader.proofs.Parts.Found.{length-back, bits-back, length-found, bits-found}
 
 -- a window that passed every test
-module _ (format : Format) (w : List ℕ) (p : Passed format w) where
+module _ (asked : Asked) (format : Format) (w : List ℕ) (p : Passed asked format w) where
   -- has the first n bits
   front : numbersOf format .n ≤ length w
   front = omega (arith, p .size)
@@ -90,17 +92,17 @@ module _ (format : Format) (w : List ℕ) (p : Passed format w) where
       sym (window-of (F .n) (F .r) t w (sizesOf format .r-within) (omega (arith, below)) (p .size) (ends-repeat F w (p .ends)))
       ∙ sym (cut-oriented k t flipped (oriented flipped x) some ∙ ap (around k t) (oriented-twice flipped x (bits-back F t w bits)))
 
-pub reads-cut : (format : Format) (w : List ℕ) → T (readsAs format w)
-    → CutFrom format w (readingIn format w .scrambling) (readingIn format w .turn) (readingIn format w .flipped) (userBitsIn format w)
+pub reads-cut : (asked : Asked) (format : Format) (w : List ℕ) → T (readsAs asked format w)
+    → CutFrom asked format w (readingIn format w .scrambling) (readingIn format w .turn) (readingIn format w .flipped) (userBitsIn format w)
 unfolding readingIn readingOf userBitsIn
-reads-cut format w h =
+reads-cut asked format w h =
     let F = numbersOf format in
-    let p = reads-passed format w .0 h in
+    let p = reads-passed asked format w .0 h in
     record {
       telegram = telegramIn F (turnIn F w) w;
-      well-formed = found-formed format w p;
+      as-asked = asked-tested asked format (telegramIn F (turnIn F w) w) .1 (found-formed asked format w p, p .as-asked);
       scrambling = refl;
       userBits = refl;
-      turn = below format w p;
-      window = found-window format w p;
+      turn = below asked format w p;
+      window = found-window asked format w p;
     }

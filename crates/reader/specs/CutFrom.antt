@@ -1,4 +1,5 @@
--- A window that is cut from a well-formed telegram going round (the request, demand 2; document 01, "Search, reading and place").
+-- A window that is cut from a proper telegram going round, or from a well-formed one (the request, demand 2; document 01, "Search, reading
+-- and place"; document 02, No. 2).
 -- Assumes nothing.
 use Prim.Native.Nat.{ℕ, _<_}
 use mathlib.Core.Bool.{Bool}
@@ -8,13 +9,21 @@ use lib.Dec.{T}
 use Rattle.formats.specs.declared.format.Format.{Format}
 use Rattle.formats.specs.Numbers.{numbersOf, windowBits}
 use Rattle.telegrams.specs.Fields.{scramblingOf, userBitsOf, wellFormed}
+use Rattle.conditions.specs.Conditions.{proper}
+use Rattle.reader.specs.declared.Asked.{Asked}
+use Rattle.reader.specs.declared.Asked.the-variants.{WellFormed, Proper}
 use Rattle.reader.specs.Windows.{cut}
 
--- w is the window of n + r bits cut at turn t, upright or flipped, from a well-formed telegram of the format that has the scrambling
+-- what a call asks of the telegram in a window
+abbrev pub isAsked : Asked → Format → List ℕ → Bool
+isAsked WellFormed format b = wellFormed (numbersOf format) b
+isAsked Proper format b = proper format b
+
+-- w is the window of n + r bits cut at turn t, upright or flipped, from a telegram of the format that is as asked, has the scrambling
 -- bits B and carries the user bits u
-pub record CutFrom (format : Format) (w : List ℕ) (B t : ℕ) (flipped : Bool) (u : List ℕ) : Type 0 where
+pub record CutFrom (asked : Asked) (format : Format) (w : List ℕ) (B t : ℕ) (flipped : Bool) (u : List ℕ) : Type 0 where
   pub telegram : List ℕ
-  pub well-formed : T (wellFormed (numbersOf format) telegram)
+  pub as-asked : T (isAsked asked format telegram)
   pub scrambling : scramblingOf (numbersOf format) telegram ≡ B
   pub userBits : userBitsOf (numbersOf format) telegram ≡ u
   pub turn : t < numbersOf format .n

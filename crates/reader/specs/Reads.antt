@@ -21,6 +21,9 @@ use Rattle.cyclic.specs.Remainder.{remainder}
 use Rattle.cyclic.specs.Check.{turned, turnOf, divisible}
 use Rattle.telegrams.specs.Telegram.{control}
 use Rattle.telegrams.specs.Fields.{controlOf, scramblingOf, allWords, userBitsOf}
+use Rattle.conditions.specs.FirstFailing.{conditionTable}
+use Rattle.reader.specs.declared.Asked.{Asked}
+use Rattle.reader.specs.declared.Asked.the-variants.{WellFormed, Proper}
 use Rattle.reader.specs.declared.Reading.{Reading}
 use Rattle.reader.specs.declared.ReadAnswer.{ReadAnswer}
 use Rattle.reader.specs.declared.ReadAnswer.the-variants.{Read, Refused}
@@ -73,18 +76,24 @@ isFlipped F b = eqb (getD b (F .n - 110) 0) 1
 unfoldable pub telegramIn : Numbers → ℕ → List ℕ → List ℕ
 telegramIn F t w = oriented (isFlipped F (turnedBack F t w)) (turnedBack F t w)
 
--- ---- the call
+-- ---- the calls
 
--- when refusals 8 and 9 apply to the telegram b
-unfoldable pub telegramTable : Numbers → List ℕ → List (Row Refusal)
-telegramTable F b =
+-- the conditions that a call asks for, by their refusals (document 02, No. 2): read 2, 3 and 4, read_well_formed none
+abbrev pub askedTable : Asked → Format → List ℕ → List (Row Refusal)
+askedTable WellFormed format b = []
+askedTable Proper format b = conditionTable format b
+
+-- when each refusal from 8 on applies to the telegram b
+unfoldable pub telegramTable : Asked → Format → List ℕ → List (Row Refusal)
+telegramTable asked format b =
+    let F = numbersOf format in
     Control when not (same (controlOf F b) control)
     ∷ NotWord when not (allWords (F .words) b)
-    ∷ []
+    ∷ askedTable asked format b
 
 -- when each refusal applies to a window that is to be the format's, room being the output's length
-unfoldable pub readTable : Format → ℕ → List ℕ → List (Row Refusal)
-readTable format room w =
+unfoldable pub readTable : Asked → Format → ℕ → List ℕ → List (Row Refusal)
+readTable asked format room w =
     let F = numbersOf format in
     Length when not (eqb (length w) (windowBits F))
     ∷ NotBit when not (allBits w)
@@ -92,7 +101,7 @@ readTable format room w =
     ∷ EndsDiffer when not (endsAgree F w)
     ∷ NotDivisible when not (divisible F (take (F .n) w))
     ∷ NoTurn when not (isTurn (turnFound F w))
-    ∷ telegramTable F (telegramIn F (turnIn F w) w)
+    ∷ telegramTable asked format (telegramIn F (turnIn F w) w)
 
 -- what the telegram b tells, found at the turn t
 unfoldable pub readingOf : Format → ℕ → Bool → List ℕ → Reading
@@ -117,13 +126,19 @@ abbrev pub readOut : Format → List ℕ → List ℕ → Outcome ReadAnswer
 readOut format w out = outcome (Read (readingIn format w)) (userBitsIn format w ++ drop (numbersOf format .m) out)
 
 -- a window that is to be the format's
-unfoldable pub readAs : Format → List ℕ → List ℕ → Outcome ReadAnswer
-readAs format w out = outcomeBy Refused out (readOut format w out) (verdict (readTable format (length out) w))
+unfoldable pub readAs : Asked → Format → List ℕ → List ℕ → Outcome ReadAnswer
+readAs asked format w out = outcomeBy Refused out (readOut format w out) (verdict (readTable asked format (length out) w))
 
 -- any window
-unfoldable pub readOf : List ℕ → List ℕ → Outcome ReadAnswer
-readOf w out = readAs (formatOf w) w out
+unfoldable pub readBy : Asked → List ℕ → List ℕ → Outcome ReadAnswer
+readBy asked w out = readAs asked (formatOf w) w out
+
+abbrev pub readOf : List ℕ → List ℕ → Outcome ReadAnswer
+readOf w out = readBy Proper w out
+
+abbrev pub readWellFormedOf : List ℕ → List ℕ → Outcome ReadAnswer
+readWellFormedOf w out = readBy WellFormed w out
 
 -- lent room, it is accepted as the format's
-unfoldable pub readsAs : Format → List ℕ → Bool
-readsAs format w = accepts (verdict (readTable format (numbersOf format .m) w))
+unfoldable pub readsAs : Asked → Format → List ℕ → Bool
+readsAs asked format w = accepts (verdict (readTable asked format (numbersOf format .m) w))

@@ -1,4 +1,4 @@
-// Reading the telegram that a window has at a turn (document 01, "Search, reading and place").
+// Reading the telegram that a window has at a turn (document 01, "Search, reading and place"; document 02, No. 2).
 ghost use mathlib.Core.Path.{_≡_};
 ghost use Prim.Native.Nat.{_≤_};
 ghost use lib.Dec.{T};
@@ -6,10 +6,12 @@ ghost use lib.ListN.{length};
 ghost use Rattle.bits.specs.Bits.{allBits};
 ghost use Rattle.formats.specs.Numbers.{numbersOf};
 ghost use Rattle.refusals.specs.Outcome.{outcome};
-ghost use Rattle.reader.specs.AtTurn.{readTelegram, readAtTurn};
+ghost use Rattle.reader.specs.AtTurn.{askedFailing, readTelegram, readAtTurn};
+use crate::Asked;
 use crate::ReadAnswer;
 use crate::Reading;
 use crate::turned;
+use conditions::Failing;
 use formats::format;
 use formats::format::Format;
 use formats::format::Long;
@@ -18,8 +20,20 @@ use telegrams::fields;
 use telegrams::undoing;
 use telegrams::undoing::Unshaped;
 
+// The first condition that fails, of those that are asked for.
+fn first_failing(asked: Asked, format: Format, telegram: &[u8]) -> Failing
+    requires { ⌜ T (allBits (now telegram)) × (length (now telegram) ≡ numbersOf format .n) ⌝ }
+    ensures { λ r. ⌜ r ≡ askedFailing asked format (now (telegram .entry)) ⌝ }
+{
+    match asked {
+        Asked::WellFormed => Failing::None,
+        Asked::Proper => conditions::first_failing(format, telegram),
+    }
+}
+
 // Reads the telegram found at the turn t.
 fn read_telegram(
+    asked: Asked,
     format: Format,
     t: usize,
     flipped: bool,
@@ -29,7 +43,7 @@ fn read_telegram(
     requires { ⌜ T (allBits (now telegram)) ⌝ }
     requires { ⌜ length (now telegram) ≡ numbersOf format .n ⌝ }
     requires { ⌜ numbersOf format .m ≤ length (now output) ⌝ }
-    ensures { λ r. ⌜ readTelegram format t flipped (now (telegram .entry)) (now (output .entry)) ≡ outcome r (now (output .exit)) ⌝ }
+    ensures { λ r. ⌜ readTelegram asked format t flipped (now (telegram .entry)) (now (output .entry)) ≡ outcome r (now (output .exit)) ⌝ }
 {
     if !fields::has_control(format, telegram) {
         return ReadAnswer::Refused(Refusal::Control);
@@ -39,6 +53,9 @@ fn read_telegram(
     let answer = undoing::unshape(telegram, words, &mut unshaped);
     if let Unshaped::NotWord = answer {
         return ReadAnswer::Refused(Refusal::NotWord);
+    }
+    if let Failing::First(refusal) = first_failing(asked, format, telegram) {
+        return ReadAnswer::Refused(refusal);
     }
     let b = fields::scrambling_bits(format, telegram);
     let m = format::user_bits(format);
@@ -52,15 +69,21 @@ fn read_telegram(
 }
 
 // Reads the telegram that the window has at the turn t.
-pub fn read_turned(format: Format, t: usize, window: &[u8], output: &mut [u8]) -> ReadAnswer
+pub fn read_turned(
+    asked: Asked,
+    format: Format,
+    t: usize,
+    window: &[u8],
+    output: &mut [u8],
+) -> ReadAnswer
     requires { ⌜ T (allBits (now window)) ⌝ }
     requires { ⌜ numbersOf format .n ≤ length (now window) ⌝ }
     requires { ⌜ t ≤ numbersOf format .n ⌝ }
     requires { ⌜ numbersOf format .m ≤ length (now output) ⌝ }
-    ensures { λ r. ⌜ readAtTurn format t (now (window .entry)) (now (output .entry)) ≡ outcome r (now (output .exit)) ⌝ }
+    ensures { λ r. ⌜ readAtTurn asked format t (now (window .entry)) (now (output .entry)) ≡ outcome r (now (output .exit)) ⌝ }
 {
     let mut telegram = [0u8; Long::N];
     let flipped = turned::telegram_in(format, t, window, &mut telegram);
     let n = format::telegram_bits(format);
-    read_telegram(format, t, flipped, &telegram[..n], output)
+    read_telegram(asked, format, t, flipped, &telegram[..n], output)
 }

@@ -1,5 +1,5 @@
-// A window whose bytes are known to be bits: for `read`, and for the search of a capture, which tests its bytes once. Not
-// calls of the bench.
+// A window whose bytes are known to be bits: for the calls of this crate, and for the search of a capture, which tests its
+// bytes once. Not calls of the bench.
 ghost use mathlib.Core.Path.{_≡_};
 ghost use lib.Dec.{T};
 ghost use lib.ListN.{length};
@@ -7,6 +7,7 @@ ghost use Rattle.bits.specs.Bits.{allBits};
 ghost use Rattle.formats.specs.Numbers.{numbersOf, windowBits};
 ghost use Rattle.refusals.specs.Outcome.{outcome};
 ghost use Rattle.reader.specs.Reads.{endsAgree, readAs};
+use crate::Asked;
 use crate::ReadAnswer;
 use crate::telegram;
 use cyclic::Turn;
@@ -28,10 +29,10 @@ pub fn ends_agree(format: Format, window: &[u8]) -> bool
 }
 
 // Reads a window of the format, whose bytes are known to be bits. Read, output has the user bits in front; refused, it keeps every byte.
-pub fn read_bits(format: Format, window: &[u8], output: &mut [u8]) -> ReadAnswer
+pub fn read_bits(asked: Asked, format: Format, window: &[u8], output: &mut [u8]) -> ReadAnswer
     requires { ⌜ T (allBits (now window)) ⌝ }
     requires { ⌜ length (now window) ≡ windowBits (numbersOf format) ⌝ }
-    ensures { λ r. ⌜ readAs format (now (window .entry)) (now (output .entry)) ≡ outcome r (now (output .exit)) ⌝ }
+    ensures { λ r. ⌜ readAs asked format (now (window .entry)) (now (output .entry)) ≡ outcome r (now (output .exit)) ⌝ }
 {
     if output.len() < format::user_bits(format) {
         return ReadAnswer::Refused(Refusal::OutputShort);
@@ -47,5 +48,5 @@ pub fn read_bits(format: Format, window: &[u8], output: &mut [u8]) -> ReadAnswer
     let Turn::At(t) = turning::turn(format, rest) else {
         return ReadAnswer::Refused(Refusal::NoTurn);
     };
-    telegram::read_turned(format, t, window, output)
+    telegram::read_turned(asked, format, t, window, output)
 }

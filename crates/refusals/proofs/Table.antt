@@ -3,7 +3,7 @@
 use Prim.Native.Nat.{ℕ, _≤_, _<_}
 use mathlib.Core.Path.{_≡_, refl, sym, ap, _∙_}
 use mathlib.Core.Bool.{Bool, true, false, not, cond}
-use mathlib.Core.List.{List, [], _∷_}
+use mathlib.Core.List.{List, [], _∷_, _++_}
 use mathlib.Core.Logic.{_↔_, inl, inr}
 use native.Mathlib.Omega.{arith}
 use lib.Dec.{T, ltb, ltb→lt}
@@ -101,6 +101,23 @@ module _ {R : Type 0} where
           → (row .applies ≡ false) × NoRow rows
       go true f e next = accepted-refused (row .refusal) (sym e)
       go false f e next = (f, next e)
+
+  pub no-row-accepted : (rows : List (Row R)) → NoRow rows → verdict rows ≡ accepted
+  unfolding verdict NoRow
+  no-row-accepted [] n = refl
+  no-row-accepted (row ∷ rows) (e, n) = rw e (no-row-accepted rows n)
+
+  -- ---- a table with more rows behind it: they decide where it accepts
+
+  pub verdict-more : (rows more : List (Row R)) → verdict (rows ++ more) ≡ answerBy refused (verdict more) (verdict rows)
+  unfolding verdict
+  verdict-more [] more = refl
+  verdict-more (row ∷ rows) more = go (row .applies) (verdict-more rows more)
+    where
+      go : (t : Bool) → verdict (rows ++ more) ≡ answerBy refused (verdict more) (verdict rows)
+          → cond t (refused (row .refusal)) (verdict (rows ++ more)) ≡ answerBy refused (verdict more) (cond t (refused (row .refusal)) (verdict rows))
+      go true next = refl
+      go false next = next
 
   first-applies : (rows : List (Row R)) (r : R) → FirstApplies rows r → Applies rows r
   unfolding FirstApplies Applies

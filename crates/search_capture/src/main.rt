@@ -1,7 +1,6 @@
 // Reads a capture from standard input, characters 0 and 1, and writes the first place at which a window is read
 // (document 01, "Bench sheet").
 use captures::Capture;
-use formats::format;
 use formats::format::Long;
 use texts::front;
 use texts::input;
@@ -17,11 +16,7 @@ fn report(capture: &[u8]) {
             let format = reading.format;
             output::print_format(format);
             output::print_field(b"place", place as u64);
-            output::print_field(b"turn", reading.turn as u64);
-            output::print_field(b"sb", reading.scrambling as u64);
-            output::print_flipped(reading.flipped);
-            output::end_line();
-            output::print_bits(front(&user_bits, format::user_bits(format)));
+            readings::print_reading(reading, &user_bits);
         }
         Capture::Refused(_) => output::print_none(),
     }

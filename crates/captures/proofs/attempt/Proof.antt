@@ -9,6 +9,7 @@ use lib.ListN.{length}
 use Rattle.bits.specs.Bits.{allBits}
 use Rattle.formats.specs.Numbers.{numbersOf, windowBits}
 use Rattle.refusals.specs.Outcome.{outcome}
+use Rattle.reader.specs.declared.Asked.the-variants.{Proper}
 use Rattle.reader.specs.declared.ReadAnswer.{ReadAnswer}
 use Rattle.reader.specs.Reads.{endsAgree, readAs}
 use Rattle.captures.specs.Captures.{windowAt}
@@ -65,11 +66,11 @@ read-bits-requires c κs =
 -- what reading answers of the window
 answered : (c : tie.After-read-bits) →
     let a = c .before .before .before .before .before .before .before .before .args in
-    readAs (a .format) (windowAt (a .format) (a .capture .now) (a .place)) (a .output .now) ≡ outcome (c .read-bits .result) (c .read-bits .last .1 .1 .0)
+    readAs Proper (a .format) (windowAt (a .format) (a .capture .now) (a .place)) (a .output .now) ≡ outcome (c .read-bits .result) (c .read-bits .last .1 .1 .1 .0)
 answered c =
     let call = c .before .before .before .before .before in
     let a = call .before .before .before .args in
-    ap (λ (w : List ℕ). readAs (a .format) w (a .output .now)) (sym (call .window-at .ensures)) ∙ c .read-bits .ensures
+    ap (λ (w : List ℕ). readAs Proper (a .format) w (a .output .now)) (sym (call .window-at .ensures)) ∙ c .read-bits .ensures
 
 enum-known-answer : tie.Need-enum-known-answer
 enum-known-answer c = search needs
@@ -84,8 +85,8 @@ returns-3 : tie.Need-returns-3
 returns-3 c =
     let call = c .before .before .before .before .before in
     let a = call .before .before .before .before .before .before .before .before .args in
-    read-tried (a .format) (a .capture .now) (a .place) (a .output .now) (c .before .answer .given .0 .0) (call .read-bits .last .1 .1 .0)
-    (answered call ∙ ap (λ (x : ReadAnswer). outcome x (call .read-bits .last .1 .1 .0)) (c .before .answer .given .1))
+    read-tried (a .format) (a .capture .now) (a .place) (a .output .now) (c .before .answer .given .0 .0) (call .read-bits .last .1 .1 .1 .0)
+    (answered call ∙ ap (λ (x : ReadAnswer). outcome x (call .read-bits .last .1 .1 .1 .0)) (c .before .answer .given .1))
 
 same-length-2 : tie.Need-same-length-2
 same-length-2 c = search needs
@@ -95,8 +96,8 @@ returns-4 c =
     let call = c .before .before .before .before in
     let start = call .before .before .before .before .before .before .before .before in
     let a = start .args in
-    refused-tried (a .format) (a .capture .now) (a .place) (a .output .now) (c .enum-told .given .0 .0) (call .read-bits .last .1 .1 .0) (start .pre .1)
-    (answered call ∙ ap (λ (x : ReadAnswer). outcome x (call .read-bits .last .1 .1 .0)) (c .enum-told .given .1))
+    refused-tried (a .format) (a .capture .now) (a .place) (a .output .now) (c .enum-told .given .0 .0) (call .read-bits .last .1 .1 .1 .0) (start .pre .1)
+    (answered call ∙ ap (λ (x : ReadAnswer). outcome x (call .read-bits .last .1 .1 .1 .0)) (c .enum-told .given .1))
 
 pub attempt-spec : {M : Type 1} → statement M
 attempt-spec =

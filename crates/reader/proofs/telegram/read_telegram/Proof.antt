@@ -21,7 +21,7 @@ use Rattle.telegrams.proofs.Shaping.{length-unshaped, bits-unshaped}
 use Rattle.telegrams.proofs.Buffers.UserBits.{data-blocks, user-bits}
 use Rattle.reader.specs.declared.ReadAnswer.the-variants.{Read}
 use Rattle.reader.specs.Reads.{readingOf}
-use Rattle.reader.proofs.Steps.{control-refused, word-refused, telegram-read}
+use Rattle.reader.proofs.Steps.{control-refused, word-refused, condition-refused, telegram-read}
 use Rattle.reader.proofs.telegram.read_telegram.Statement.{statement}
 use Rattle.reader.proofs.telegram.read_telegram.Tie as tie
 
@@ -44,7 +44,7 @@ has-control-requires c κs = search needs
 returns : tie.Need-returns
 returns c =
     let a = c .before .before .before .before .args in
-    control-refused (a .format) (a .t) (a .flipped) (a .telegram .now) (a .output .now)
+    control-refused (a .asked) (a .format) (a .t) (a .flipped) (a .telegram .now) (a .output .now)
     (sym (c .before .has-control .ensures) ∙ not-true _ (c .if1 .taken))
 
 -- the control bits are 0, 0, 1
@@ -74,7 +74,7 @@ returns-2 c =
     let words = call .before .before in
     let a = words .before .before .before .before .before .args in
     let other = other-word (allWords (words .words .result) (a .telegram .now)) (sym (c .enum-told .given .1) ∙ call .unshape .ensures .0) in
-    word-refused (a .format) (a .t) (a .flipped) (a .telegram .now) (a .output .now) (controlled (words .before))
+    word-refused (a .asked) (a .format) (a .t) (a .flipped) (a .telegram .now) (a .output .now) (controlled (words .before))
     (ap (λ (k : ℕ). allWords k (a .telegram .now)) (sym (words .words .ensures)) ∙ other)
 
 enum-told-2 : tie.Need-enum-told-2
@@ -98,6 +98,36 @@ filled : (c : tie.After-enum-told2) →
     call .unshape .last .1 .1 .0 ≡ unshaped (words .words .result) b ++ drop (10 * words .words .result) zeros
 filled c = c .before .before .before .unshape .ensures .1 (holds _ (worded c))
 
+first-failing-requires : tie.Need-first-failing-requires
+first-failing-requires c κs =
+    let start = c .before .before .before .before .before .before .before .before .before .before in
+    (start .pre .0, start .pre .1 .0)
+
+enum-known-refusal : tie.Need-enum-known-refusal
+enum-known-refusal c = search needs
+
+-- all words are those of the format
+all-worded : (c : tie.After-enum-told2) →
+    let a = c .before .before .before .before .before .before .before .before .before .before .args in
+    allWords (numbersOf (a .format) .words) (a .telegram .now) ≡ true
+all-worded c =
+    let words = c .before .before .before .before .before in
+    let b = words .before .before .before .before .before .args .telegram .now in
+    ap (λ (k : ℕ). allWords k b) (sym (words .words .ensures)) ∙ worded c
+
+returns-3 : tie.Need-returns-3
+returns-3 c =
+    let found = c .before in
+    let call = found .before .before in
+    let told = call .before in
+    let words = told .before .before .before .before .before in
+    let a = words .before .before .before .before .before .args in
+    condition-refused (a .asked) (a .format) (a .t) (a .flipped) (a .telegram .now) (a .output .now) (controlled (words .before)) (all-worded told)
+    (found .refusal .given .0 .0) (sym (call .first-failing .ensures) ∙ found .refusal .given .1)
+
+enum-told-3 : tie.Need-enum-told-3
+enum-told-3 c = search needs
+
 scrambling-bits-requires : tie.Need-scrambling-bits-requires
 scrambling-bits-requires c κs = search needs
 
@@ -106,19 +136,20 @@ user-bits-requires c κs = search needs
 
 array-share-prefix-unshaped : tie.Need-array-share-prefix-unshaped
 array-share-prefix-unshaped c =
-    let start = c .before .before .before .before .before .before .before .before .before .before .before .before in
-    omega (arith, block-between (start .args .format), c .before .before .before .before .before .unshape .kept)
+    let call = c .before .before .before .before .before .before .before .before in
+    let start = call .before .before .before .before .before .before .before in
+    omega (arith, block-between (start .args .format), call .unshape .kept)
 
 slice-aggregate-write-user-bits : tie.Need-slice-aggregate-write-user-bits
 slice-aggregate-write-user-bits c =
     let bits = c .before in
-    let u = bits .before .before .before .before .before .unshape .last .1 .1 .0 in
+    let u = bits .before .before .before .before .before .before .before .before .unshape .last .1 .1 .0 in
     sym (length-take-le (bits .user-bits .result) u (array-share-prefix-unshaped bits))
 
 write-user-bits-requires : tie.Need-write-user-bits-requires
 write-user-bits-requires c κs =
     let bits = c .before .before in
-    let told = bits .before .before in
+    let told = bits .before .before .before .before .before in
     let call = told .before .before .before in
     let words = call .before .before in
     let start = words .before .before .before .before .before in
@@ -137,12 +168,14 @@ write-user-bits-requires c κs =
 same-length : tie.Need-same-length
 same-length c = search needs
 
-returns-3 : tie.Need-returns-3
+returns-4 : tie.Need-returns-4
 unfolding readingOf
-returns-3 c =
+returns-4 c =
     let wrote = c .before .before in
     let bits = wrote .before .before .before in
-    let told = bits .before .before in
+    let none = bits .before .before in
+    let tests = none .before .before in
+    let told = tests .before in
     let call = told .before .before .before in
     let words = call .before .before in
     let start = words .before .before .before .before .before in
@@ -156,8 +189,8 @@ returns-3 c =
     user-bits F (sizesOf (a .format)) b u (drop (10 * words .words .result) zeros) (words .words .result) (bits .user-bits .result)
     (words .words .ensures) (bits .user-bits .ensures) (filled told)
     B B-is (a .output .now) (wrote .write-user-bits .last .1 .1 .0) (wrote .write-user-bits .ensures) in
-    telegram-read (a .format) (a .t) (a .flipped) b (a .output .now) (controlled (words .before))
-    (ap (λ (k : ℕ). allWords k b) (sym (words .words .ensures)) ∙ worded told)
+    telegram-read (a .asked) (a .format) (a .t) (a .flipped) b (a .output .now) (controlled (words .before)) (all-worded told)
+    (sym (tests .first-failing .ensures) ∙ none .enum-told3 .given .1)
     ∙ ap₂ (λ (x : ℕ) (o : List ℕ). outcome (Read (record { format = a .format; scrambling = x; turn = a .t; flipped = a .flipped })) o)
     (sym B-is) (sym written)
 
@@ -173,10 +206,14 @@ read-telegram-spec =
     enum-told
     returns-2
     enum-told-2
+    first-failing-requires
+    enum-known-refusal
+    returns-3
+    enum-told-3
     scrambling-bits-requires
     user-bits-requires
     array-share-prefix-unshaped
     slice-aggregate-write-user-bits
     write-user-bits-requires
     same-length
-    returns-3)
+    returns-4)

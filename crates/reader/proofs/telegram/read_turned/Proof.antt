@@ -74,7 +74,7 @@ returns c =
     let bits = answer .before .before .before in
     let call = bits .before .before in
     let a = call .before .before .before .before .args in
-    ap₂ (λ (f : Bool) (b : List ℕ). readTelegram (a .format) (a .t) f b (a .output .now)) (sym (call .telegram-in .ensures .0)) (sym (front bits))
+    ap₂ (λ (f : Bool) (b : List ℕ). readTelegram (a .asked) (a .format) (a .t) f b (a .output .now)) (sym (call .telegram-in .ensures .0)) (sym (front bits))
     ∙ answer .read-telegram .ensures
 
 pub read-turned-spec : {M : Type 1} → statement M

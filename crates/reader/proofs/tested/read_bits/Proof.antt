@@ -31,7 +31,7 @@ returns : tie.Need-returns
 returns c =
     let start = c .before .before .before .before in
     let a = start .args in
-    room-refused (a .format) (a .window .now) (a .output .now) (start .pre .1) (bits start) (omega arith)
+    room-refused (a .asked) (a .format) (a .window .now) (a .output .now) (start .pre .1) (bits start) (omega arith)
 
 -- the output has room
 room : (c : tie.Else1) → let a = c .before .before .before .before .args in numbersOf (a .format) .m ≤ length (a .output .now)
@@ -45,7 +45,7 @@ returns-2 c =
     let call = c .before in
     let start = call .before .before .before .before .before in
     let a = start .args in
-    ends-refused (a .format) (a .window .now) (a .output .now) (start .pre .1) (bits start) (room (call .before))
+    ends-refused (a .asked) (a .format) (a .window .now) (a .output .now) (start .pre .1) (bits start) (room (call .before))
     (sym (call .ends-agree .ensures) ∙ not-true _ (c .if2 .taken))
 
 -- the ends agree
@@ -88,7 +88,7 @@ returns-3 c =
     let agreed = call .before .before .before in
     let start = agreed .before .before .before .before .before .before in
     let a = start .args in
-    divisible-refused (a .format) (a .window .now) (a .output .now) (start .pre .1) (bits start) (room (agreed .before .before)) (agree agreed)
+    divisible-refused (a .asked) (a .format) (a .window .now) (a .output .now) (start .pre .1) (bits start) (room (agreed .before .before)) (agree agreed)
     (tested call ∙ not-true _ (c .if3 .taken))
 
 slice-aggregate-remainder-f : tie.Need-slice-aggregate-remainder-f
@@ -134,7 +134,7 @@ returns-4 c =
     let agreed = divided .before .before .before .before in
     let start = agreed .before .before .before .before .before .before in
     let a = start .args in
-    turn-refused (a .format) (a .window .now) (a .output .now) (start .pre .1) (bits start) (room (agreed .before .before)) (agree agreed)
+    turn-refused (a .asked) (a .format) (a .window .now) (a .output .now) (start .pre .1) (bits start) (room (agreed .before .before)) (agree agreed)
     (tested (divided .before) ∙ not-false _ (divided .if3 .left)) (turn-is turn ∙ c .enum-told .given .1)
 
 read-turned-requires : tie.Need-read-turned-requires
@@ -160,7 +160,7 @@ returns-5 c =
     let agreed = divided .before .before .before .before in
     let start = agreed .before .before .before .before .before .before in
     let a = start .args in
-    turn-found (a .format) (a .window .now) (a .output .now) (start .pre .1) (bits start) (room (agreed .before .before)) (agree agreed)
+    turn-found (a .asked) (a .format) (a .window .now) (a .output .now) (start .pre .1) (bits start) (room (agreed .before .before)) (agree agreed)
     (tested (divided .before) ∙ not-false _ (divided .if3 .left)) (told .t .given .0 .0) (turn-is turn ∙ told .t .given .1)
     ∙ answer .read-turned .ensures
 

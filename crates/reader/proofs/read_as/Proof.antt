@@ -1,4 +1,4 @@
--- `reader::read` meets its contract: refused by its length or a byte, or what `read_bits` answers. Assumes nothing.
+-- `reader::read_as` meets its contract: refused by its length or a byte, or what `read_bits` answers. Assumes nothing.
 use mathlib.Core.Path.{_≡_, sym, ap, _∙_}
 use native.Mathlib.Omega.{arith}
 use borrow.Author.Needs.{needs}
@@ -8,10 +8,10 @@ use Rattle.bits.specs.Bits.{allBits}
 use Rattle.bits.proofs.Tests.{holds}
 use Rattle.formats.specs.declared.format.Format.{Format}
 use Rattle.formats.specs.Numbers.{numbersOf, windowBits}
-use Rattle.reader.specs.Reads.{readAs, readOf}
+use Rattle.reader.specs.Reads.{readAs, readBy}
 use Rattle.reader.proofs.Steps.{length-refused, bits-refused}
-use Rattle.reader.proofs.read.Statement.{statement}
-use Rattle.reader.proofs.read.Tie as tie
+use Rattle.reader.proofs.read_as.Statement.{statement}
+use Rattle.reader.proofs.read_as.Tie as tie
 
 add-of-length : tie.Need-add-of-length
 add-of-length c = search needs
@@ -25,18 +25,18 @@ window-bits-requires c κs = search needs
 -- a window is read as its length's format
 read-is : (c : tie.After-of-length) →
     let a = c .before .before .before .args in
-    readOf (a .window .now) (a .output .now) ≡ readAs (c .of-length .result) (a .window .now) (a .output .now)
-unfolding readOf
+    readBy (a .asked) (a .window .now) (a .output .now) ≡ readAs (a .asked) (c .of-length .result) (a .window .now) (a .output .now)
+unfolding readBy
 read-is c =
     let a = c .before .before .before .args in
-    ap (λ (f : Format). readAs f (a .window .now) (a .output .now)) (sym (c .of-length .ensures))
+    ap (λ (f : Format). readAs (a .asked) f (a .window .now) (a .output .now)) (sym (c .of-length .ensures))
 
 returns : tie.Need-returns
 returns c =
     let picked = c .before .before in
     let a = picked .before .before .before .args in
     read-is picked
-    ∙ length-refused (picked .of-length .result) (a .window .now) (a .output .now)
+    ∙ length-refused (a .asked) (picked .of-length .result) (a .window .now) (a .output .now)
     (λ size. omega arith)
 
 -- the length is that of the format picked
@@ -54,7 +54,7 @@ returns-2 c =
     let picked = call .before .before .before in
     let a = picked .before .before .before .args in
     read-is picked
-    ∙ bits-refused (picked .of-length .result) (a .window .now) (a .output .now) (size (call .before))
+    ∙ bits-refused (a .asked) (picked .of-length .result) (a .window .now) (a .output .now) (size (call .before))
     (sym (call .all-bits .ensures) ∙ not-true _ (c .if2 .taken))
 
 read-bits-requires : tie.Need-read-bits-requires
@@ -72,8 +72,8 @@ returns-3 c =
     let answer = c .before .before in
     read-is (answer .before .before .before .before .before .before) ∙ answer .read-bits .ensures
 
-pub read-spec : {M : Type 1} → statement M
-read-spec =
+pub read-as-spec : {M : Type 1} → statement M
+read-as-spec =
     tie.close
     (tie.spec
     add-of-length
