@@ -1,26 +1,29 @@
 // Condition 3, of the long format only (document 01, "Four conditions of a proper telegram").
 ghost use mathlib.Core.Path.{_≡_};
-ghost use Prim.Native.Nat.{ℕ, _+_, _-_, _*_, _≤_, _<_};
+ghost use Prim.Native.Nat.{ℕ, _-_, _*_, _≤_, _<_};
 ghost use lib.Dec.{T};
 ghost use lib.ListN.{length};
-ghost use Rattle.bits.specs.Bits.{allBits, around};
-ghost use Rattle.bits.specs.Differences.{differences};
+ghost use Rattle.bits.specs.Bits.{allBits};
 ghost use Rattle.formats.specs.Numbers.{long, numbersOf};
 ghost use Rattle.conditions.specs.Conditions.{fromTo, apart, shiftedApart, notRepeating};
 use crate::ring;
 use formats::format::Format;
 use formats::format::Long;
 
-// In how many places the 22 bits from place p differ from the 22 that stand k places on.
-fn differing(b: &[u8], p: usize, k: usize) -> usize
+// Whether the 22 bits from place p differ in at least d places from those that stand k places on. When d places differ, the others are
+// not looked at.
+fn apart(d: usize, b: &[u8], p: usize, k: usize) -> bool
     requires { ⌜ (p < length (now b)) × (k ≤ length (now b)) ⌝ }
-    ensures { λ r. ⌜ r ≡ differences (around 22 p (now (b .entry))) (around 22 (p + k) (now (b .entry))) ⌝ }
+    ensures { λ r. ⌜ r ≡ apart d (now (b .entry)) p k ⌝ }
 {
     let mut count: usize = 0;
     let mut at = p;
     let mut other = ring::place_after(p, k, b.len());
     let mut i: usize = 0;
     while i < 22 {
+        if d <= count {
+            return true;
+        }
         if b[at] != b[other] {
             count += 1;
         }
@@ -28,15 +31,7 @@ fn differing(b: &[u8], p: usize, k: usize) -> usize
         other = ring::place_after(other, 1, b.len());
         i += 1;
     }
-    count
-}
-
-// Whether the 22 bits from place p differ in at least d places from those that stand k places on.
-fn apart(d: usize, b: &[u8], p: usize, k: usize) -> bool
-    requires { ⌜ (p < length (now b)) × (k ≤ length (now b)) ⌝ }
-    ensures { λ r. ⌜ r ≡ apart d (now (b .entry)) p k ⌝ }
-{
-    d <= differing(b, p, k)
+    d <= count
 }
 
 // Whether condition 3 holds where b(i-1) stands at place p, and b(i-341-k-1) 341+k places on.
