@@ -1,8 +1,9 @@
-//! Searching a capture (document 01, "Search, reading and place").
+//! Searching a capture (document 01, "Search, reading and place"). The search
+//! follows `read` (document 02, No. 2).
 
 use crate::bits::all_bits;
 use crate::format::FORMATS;
-use crate::read::{read_bits, Reading};
+use crate::read::{read_bits, Asked, Reading};
 use crate::refusal;
 
 /// The longest capture.
@@ -30,7 +31,8 @@ pub fn search(capture: &[u8]) -> Result<Found, u8> {
             if end > capture.len() {
                 continue;
             }
-            if let Ok((reading, user)) = read_bits(&capture[place..end], format) {
+            let window = &capture[place..end];
+            if let Ok((reading, user)) = read_bits(window, format, Asked::Proper) {
                 return Ok(Found {
                     place,
                     reading,

@@ -1,7 +1,7 @@
 //! Checking a telegram (document 01, "When the bench says no").
 
 use crate::bits::all_bits;
-use crate::conditions::{condition_2, condition_3, condition_4};
+use crate::conditions::failing_conditions;
 use crate::cyclic::{remainder_by_f, remainder_by_g, remainder_of_turn};
 use crate::format::Format;
 use crate::refusal;
@@ -21,13 +21,9 @@ pub fn check(telegram: &[u8]) -> Result<Format, u8> {
         Err(refusal::CONTROL)
     } else if !all_words_valid(telegram) {
         Err(refusal::WORD)
-    } else if !condition_2(telegram, format) {
-        Err(refusal::OFF_STEP)
-    } else if !condition_3(telegram, format) {
-        Err(refusal::PERIOD)
-    } else if !condition_4(telegram) {
-        Err(refusal::THINNED)
     } else {
-        Ok(format)
+        failing_conditions(telegram, format)
+            .next()
+            .map_or(Ok(format), Err)
     }
 }

@@ -4,6 +4,7 @@
 
 use crate::bits::distance;
 use crate::format::Format;
+use crate::refusal;
 use crate::words::{self, valid, WORD_BITS};
 
 /// How condition 2 counts its runs.
@@ -130,4 +131,20 @@ pub fn thinned_run(telegram: &[u8], k: u32, alignment: usize) -> usize {
 pub fn condition_4(telegram: &[u8]) -> bool {
     (1..=4)
         .all(|k| (0..WORD_BITS).all(|alignment| thinned_run(telegram, k, alignment) <= THINNED_RUN))
+}
+
+/// A condition: whether it holds.
+type Condition = fn(&[u8], Format) -> bool;
+
+/// The refusals of those of conditions 2, 3 and 4 that fail, lowest first.
+pub fn failing_conditions(telegram: &[u8], format: Format) -> impl Iterator<Item = u8> + '_ {
+    let conditions: [(u8, Condition); 3] = [
+        (refusal::OFF_STEP, condition_2),
+        (refusal::PERIOD, condition_3),
+        (refusal::THINNED, |telegram, _| condition_4(telegram)),
+    ];
+    conditions
+        .into_iter()
+        .filter(move |(_, holds)| !holds(telegram, format))
+        .map(|(number, _)| number)
 }

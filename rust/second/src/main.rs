@@ -1,11 +1,11 @@
-//! The second program on standard input: `second encode`, `check`, `read` or
-//! `capture`. It reads characters 0 and 1, skipping bytes 10 and 13, and
-//! writes what the main programs write (document 01, the capture program); of
-//! a bad text a line on standard error says what is wrong.
+//! The second program on standard input: `second encode`, `check`, `read`,
+//! `read-well-formed` or `capture`. It reads characters 0 and 1, skipping bytes
+//! 10 and 13, and writes what the main programs write (document 01, the capture
+//! program); of a bad text a line on standard error says what is wrong.
 
 use second::bits::{first_fault, of_text, text, Fault};
 use second::format::Format;
-use second::{check, encode, read, search, Reading, CAPTURE_LIMIT};
+use second::{check, encode, read, read_well_formed, search, Reading, CAPTURE_LIMIT};
 use std::io::{self, Read, Write};
 use std::{env, process};
 
@@ -15,9 +15,10 @@ fn main() -> io::Result<()> {
         "encode" => (Format::Long.user_bits(), encoded),
         "check" => (Format::Long.telegram_bits(), checked),
         "read" => (Format::Long.window_bits(), window_read),
+        "read-well-formed" => (Format::Long.window_bits(), well_formed_read),
         "capture" => (CAPTURE_LIMIT, captured),
         _ => {
-            eprintln!("usage: second encode | check | read | capture");
+            eprintln!("usage: second encode | check | read | read-well-formed | capture");
             process::exit(2);
         }
     };
@@ -73,6 +74,15 @@ fn facts(reading: &Reading) -> String {
 }
 
 fn window_read(window: &[u8]) -> String {
+    what_was_read(window, read)
+}
+
+fn well_formed_read(window: &[u8]) -> String {
+    what_was_read(window, read_well_formed)
+}
+
+/// The lines of a window that one of the two calls reads.
+fn what_was_read(window: &[u8], read: fn(&[u8], &mut [u8]) -> Result<Reading, u8>) -> String {
     let mut output = [0; Format::Long.user_bits()];
     match read(window, &mut output) {
         Ok(r) => format!(

@@ -1,6 +1,8 @@
-//! Reading a window (document 01, "Search, reading and place").
+//! Reading a window (document 01, "Search, reading and place"; document 02,
+//! No. 2).
 
 use crate::bits::{all_bits, bits_of, flip, turn_right};
+use crate::conditions::failing_conditions;
 use crate::cyclic::{remainder_by_f, remainder_by_g, turn_of_remainder};
 use crate::format::Format;
 use crate::refusal;
@@ -17,9 +19,30 @@ pub struct Reading {
     pub flipped: bool,
 }
 
-/// Reads a window and writes its user bits, or gives the lowest number of a
-/// refusal that applies.
+/// What is asked of the telegram in a window.
+#[derive(Clone, Copy, Debug, PartialEq, Eq)]
+pub enum Asked {
+    /// That it is proper (document 02, No. 2).
+    Proper,
+    /// That it is well-formed, as document 01 had it.
+    WellFormed,
+}
+
+/// Reads a window of a proper telegram and writes its user bits, or gives the
+/// lowest number of a refusal that applies.
 pub fn read(window: &[u8], output: &mut [u8]) -> Result<Reading, u8> {
+    answer(window, output, Asked::Proper)
+}
+
+/// Reads a window of a well-formed telegram, proper or not (document 02, No. 2:
+/// the call for museum boxes).
+pub fn read_well_formed(window: &[u8], output: &mut [u8]) -> Result<Reading, u8> {
+    answer(window, output, Asked::WellFormed)
+}
+
+/// The refusals before the bits are looked at, lowest number first, then the
+/// reading.
+fn answer(window: &[u8], output: &mut [u8], asked: Asked) -> Result<Reading, u8> {
     let format = Format::of_window(window.len()).ok_or(refusal::LENGTH)?;
     if !all_bits(window) {
         return Err(refusal::NOT_A_BIT);
@@ -27,13 +50,14 @@ pub fn read(window: &[u8], output: &mut [u8]) -> Result<Reading, u8> {
     if output.len() < format.user_bits() {
         return Err(refusal::OUTPUT);
     }
-    let (reading, user) = read_bits(window, format)?;
+    let (reading, user) = read_bits(window, format, asked)?;
     output[..format.user_bits()].copy_from_slice(&user);
     Ok(reading)
 }
 
-/// Reads a window of a format's n+r bits, each 0 or 1: refusals 5 to 9.
-pub fn read_bits(window: &[u8], format: Format) -> Result<(Reading, Vec<u8>), u8> {
+/// Reads a window of a format's n+r bits, each 0 or 1: refusals 5 to 9, and
+/// then 10 to 12 where a proper telegram is asked for.
+pub fn read_bits(window: &[u8], format: Format, asked: Asked) -> Result<(Reading, Vec<u8>), u8> {
     let (turned, extra) = window.split_at(format.telegram_bits());
     if extra != &window[..format.extra_bits()] {
         return Err(refusal::ENDS);
@@ -52,6 +76,11 @@ pub fn read_bits(window: &[u8], format: Format) -> Result<(Reading, Vec<u8>), u8
         return Err(refusal::CONTROL);
     }
     let user = user_bits_of(&telegram, format)?;
+    if asked == Asked::Proper {
+        if let Some(number) = failing_conditions(&telegram, format).next() {
+            return Err(number);
+        }
+    }
     let reading = Reading {
         format,
         b: b_of(&telegram, format),

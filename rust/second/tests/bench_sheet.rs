@@ -6,7 +6,7 @@ use second::cyclic::remainder_by_f;
 use second::format::{Format, FORMATS};
 use second::scrambling::{replace_first, restore_first, scramble, scramble_by_top_bit, start};
 use second::words::{number, word};
-use second::{encode, read, search};
+use second::{encode, read, read_well_formed, search};
 
 /// A list of zeros with its first bit 1.
 fn first_bit(count: usize) -> Vec<u8> {
@@ -64,29 +64,34 @@ fn w8_w9_remainders() {
     assert_eq!(remainder_by_f(&first_bit(11), Format::Short), 427);
 }
 
+/// The refusal of both window calls, whose output is kept.
+fn refused(window: &[u8], room: usize) -> u8 {
+    let mut output = vec![9; room];
+    let refused = read(window, &mut output).unwrap_err();
+    assert_eq!(read_well_formed(window, &mut output), Err(refused));
+    assert_eq!(output, vec![9; room]);
+    refused
+}
+
 #[test]
 fn w10_w11_w12_windows() {
-    let mut output = [9; 830];
-    assert_eq!(read(&[0; 462], &mut output), Err(7));
+    assert_eq!(refused(&[0; 462], 830), 7);
     let mut window = [0; 462];
     window[461] = 1;
-    assert_eq!(read(&window, &mut output), Err(5));
-    assert_eq!(read(&[0; 461], &mut output), Err(1));
-    assert_eq!(output, [9; 830]);
+    assert_eq!(refused(&window, 830), 5);
+    assert_eq!(refused(&[0; 461], 830), 1);
 }
 
 #[test]
 fn also_windows() {
-    let mut output = [9; 830];
-    assert_eq!(read(&[0; 463], &mut output), Err(1));
-    assert_eq!(read(&[], &mut output), Err(1));
-    assert_eq!(read(&[0; 1100], &mut output), Err(7));
+    assert_eq!(refused(&[0; 463], 830), 1);
+    assert_eq!(refused(&[], 830), 1);
+    assert_eq!(refused(&[0; 1100], 830), 7);
     for length in [462, 1100] {
         let mut window = vec![0; length];
         window[length / 2] = 2;
-        assert_eq!(read(&window, &mut output[..209]), Err(2));
+        assert_eq!(refused(&window, 209), 2);
     }
-    assert_eq!(output, [9; 830]);
 }
 
 #[test]

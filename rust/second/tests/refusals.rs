@@ -1,24 +1,37 @@
-//! Each refusal of check and read where it is the lowest that applies.
+//! Each refusal of check, read and read_well_formed where it is the lowest that
+//! applies.
 
 use second::bits::{bits_of, flip, number_of};
-use second::conditions::{condition_2, condition_3, condition_4, thinned_run};
+use second::conditions::{condition_2, condition_3, condition_4, failing_conditions, thinned_run};
 use second::cyclic::{check_bits, remainder_by_g};
 use second::format::{Format, FORMATS};
 use second::made::{telegram_of, valid_words, with_bits, with_word};
 use second::random::Random;
 use second::telegram::{complete, cut, well_formed};
 use second::words::{valid, word};
-use second::{check, read};
+use second::{check, read, read_well_formed};
 
 fn window_of(telegram: &[u8], format: Format, turn: usize, flipped: bool) -> Vec<u8> {
     cut(telegram, turn, format.window_bits(), flipped)
 }
 
-fn read_number(window: &[u8]) -> Option<u8> {
-    let mut output = [9; 830];
-    let answer = read(window, &mut output).err();
-    assert!(answer.is_none() || output == [9; 830]);
-    answer
+/// The refusals of read and of read_well_formed. Both answer and write the same,
+/// or the second accepts where the first gives 10, 11 or 12 (document 02, No. 2).
+/// A refusal keeps every byte.
+fn read_numbers(window: &[u8]) -> [Option<u8>; 2] {
+    let mut outputs = [[9; 830]; 2];
+    let proper = read(window, &mut outputs[0]);
+    let well_formed = read_well_formed(window, &mut outputs[1]);
+    if proper == well_formed {
+        assert_eq!(outputs[0], outputs[1]);
+    } else {
+        assert!(well_formed.is_ok() && matches!(proper, Err(10..=12)));
+    }
+    let numbers = [proper.err(), well_formed.err()];
+    for (number, output) in numbers.iter().zip(outputs) {
+        assert!(number.is_none() || output == [9; 830]);
+    }
+    numbers
 }
 
 #[test]
@@ -37,6 +50,7 @@ fn lengths_and_bytes() {
     for length in [462, 1100] {
         let mut output = [9; 209];
         assert_eq!(read(&vec![1; length], &mut output), Err(3));
+        assert_eq!(read_well_formed(&vec![1; length], &mut output), Err(3));
         assert_eq!(output, [9; 209]);
     }
 }
@@ -50,7 +64,7 @@ fn ends_and_parity() {
             let mut window = window_of(&telegram, format, 5, false);
             window[place] ^= 1;
             let expected = if place < r || place >= n { 5 } else { 6 };
-            assert_eq!(read_number(&window), Some(expected));
+            assert_eq!(read_numbers(&window), [Some(expected); 2]);
             if place < n {
                 let mut changed = telegram.clone();
                 changed[place] ^= 1;
@@ -87,9 +101,9 @@ fn control_bits() {
             let allowed = control == 1;
             assert_eq!(check(&other).err() == Some(8), !allowed);
             for flipped in [false, true] {
-                let answer = read_number(&window_of(&other, format, 77, flipped));
+                let answers = read_numbers(&window_of(&other, format, 77, flipped));
                 // Upright, 1, 1, 0 is flipped into 0, 0, 1.
-                assert_eq!(answer == Some(8), control != 1 && control != 6);
+                assert_eq!(answers == [Some(8); 2], control != 1 && control != 6);
             }
         }
     }
@@ -105,7 +119,8 @@ fn words() {
             let barred = (0..2048).find(|&w| !valid(w)).unwrap();
             let other = with_word(&telegram, format, index, barred);
             assert_eq!(check(&other), Err(9));
-            assert_eq!(read_number(&window_of(&other, format, 3, true)), Some(9));
+            let window = window_of(&other, format, 3, true);
+            assert_eq!(read_numbers(&window), [Some(9); 2]);
         }
         let mut seen = [false; 10];
         for esb in 0..1024 {
@@ -119,19 +134,21 @@ fn words() {
                 seen[only] = true;
             }
             assert_eq!(check(&other) == Err(9), !bad.is_empty());
-            let answer = read_number(&window_of(&other, format, 200, false));
-            assert_eq!(answer, if bad.is_empty() { None } else { Some(9) });
+            let answers = read_numbers(&window_of(&other, format, 200, false));
+            let well_formed = if bad.is_empty() { None } else { Some(9) };
+            assert_eq!(answers, [check(&other).err(), well_formed]);
         }
         assert!(seen[2..].iter().filter(|&&seen| seen).count() > 0);
     }
 }
 
-/// Well-formed telegrams with drawn words: the checker gives 10, 11 or 12 by
-/// the first condition that fails, and the reader takes them all.
+/// Well-formed telegrams with drawn words: the checker and the reader give 10,
+/// 11 or 12 by the first condition that fails, and read_well_formed takes them
+/// all. Of some more than one condition fails.
 #[test]
 fn conditions() {
     let mut random = Random::new(17);
-    let mut seen = [0; 13];
+    let (mut seen, mut several) = ([0; 13], 0);
     for format in FORMATS {
         let mut made = 0;
         while made < 60 {
@@ -160,10 +177,12 @@ fn conditions() {
             };
             assert_eq!(check(&head), expected);
             seen[usize::from(expected.err().unwrap_or(0))] += 1;
-            assert_eq!(read_number(&window_of(&head, format, 9, true)), None);
+            several += usize::from(failing_conditions(&head, format).count() > 1);
+            let window = window_of(&head, format, 9, true);
+            assert_eq!(read_numbers(&window), [expected.err(), None]);
         }
     }
-    assert!(seen[0] > 0 && seen[10] > 0 && seen[11] > 0);
+    assert!(seen[0] > 0 && seen[10] > 0 && seen[11] > 0 && several > 0);
 }
 
 /// A long telegram that only condition 4 bars. In each of 31 neighbouring
@@ -200,5 +219,6 @@ fn thinned() {
     assert!(thinned_run(&telegram, 1, 511 % 11) >= 31);
     assert!(!condition_4(&telegram));
     assert_eq!(check(&telegram), Err(12));
-    assert_eq!(read_number(&window_of(&telegram, format, 50, false)), None);
+    let window = window_of(&telegram, format, 50, false);
+    assert_eq!(read_numbers(&window), [Some(12), None]);
 }

@@ -4,7 +4,7 @@
 use second::format::{Format, FORMATS};
 use second::made::{encoded, telegram_of};
 use second::random::Random;
-use second::read::{read, user_bits_of, Reading};
+use second::read::{read, read_well_formed, user_bits_of, Reading};
 use second::scrambling::{descramble, replace_first, restore_first, scramble};
 use second::telegram::{b_of, cut, esb_of, make, well_formed};
 use second::{check, encode, encode_skipping};
@@ -81,16 +81,18 @@ fn every_turn_reads_back() {
             for turn in 0..format.telegram_bits() {
                 for flipped in [false, true] {
                     let window = cut(&telegram, turn, format.window_bits(), flipped);
-                    let mut output = vec![9; format.user_bits() + 1];
                     let reading = Reading {
                         format,
                         b: encoded.b,
                         turn,
                         flipped,
                     };
-                    assert_eq!(read(&window, &mut output), Ok(reading));
-                    assert_eq!(output.pop(), Some(9));
-                    assert_eq!(output, user);
+                    for read in [read, read_well_formed] {
+                        let mut output = vec![9; format.user_bits() + 1];
+                        assert_eq!(read(&window, &mut output), Ok(reading));
+                        assert_eq!(output.pop(), Some(9));
+                        assert_eq!(output, user);
+                    }
                 }
             }
         }

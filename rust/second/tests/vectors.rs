@@ -4,7 +4,7 @@ use second::appendices::{appendix_b, Row};
 use second::bits::{number_of, pack};
 use second::conditions::{off_step, Course};
 use second::encode::first_pair_skipping;
-use second::read::{read_bits, scrambled_bits_of, user_bits_of};
+use second::read::{read_bits, scrambled_bits_of, user_bits_of, Asked};
 use second::scrambling::{restore_first, scramble_by_top_bit};
 use second::telegram::{b_of, cut, esb_of, make};
 use second::{check, encode, Format, Reading};
@@ -67,7 +67,10 @@ fn telegrams_read() {
                 turn,
                 flipped,
             };
-            assert_eq!(read_bits(&window, format), Ok((reading, decoded(&row))));
+            for asked in [Asked::Proper, Asked::WellFormed] {
+                let read = read_bits(&window, format, asked);
+                assert_eq!(read, Ok((reading, decoded(&row))));
+            }
         }
     }
 }
