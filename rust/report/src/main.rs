@@ -5,6 +5,7 @@
 mod appendix_a;
 mod appendix_b;
 mod appendix_c;
+mod not_proper;
 mod ring;
 mod search;
 
@@ -15,6 +16,8 @@ fn main() {
     section("The polynomials", &appendix_c::polynomial_lines());
     section("The search", &search::lines());
     section("Telegrams that only the ring refuses", &ring::lines());
+    let lines = not_proper::lines();
+    section("Well-formed telegrams that are not proper", &lines);
 }
 
 fn section(heading: &str, lines: &[String]) {

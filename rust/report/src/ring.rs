@@ -34,7 +34,7 @@ fn line(format: Format) -> String {
 }
 
 /// The runs of a telegram that are over the limit round the ring.
-fn over(telegram: &[u8], format: Format) -> Vec<String> {
+pub fn over(telegram: &[u8], format: Format) -> Vec<String> {
     (1..=10)
         .map(|p| (p, off_step_run(telegram, p, Course::Ring)))
         .filter(|&(p, run)| run > off_step_limit(p, format))

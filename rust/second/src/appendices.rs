@@ -1,5 +1,6 @@
 //! Appendices B and C of document 000 as printed, the long block without a
-//! pair, and the telegrams that only the ring refuses, from the data files.
+//! pair, the telegrams that only the ring refuses, and others that are
+//! well-formed and not proper, from the data files.
 
 use crate::bits::{of_text, unpack};
 use crate::format::{Format, FORMATS};
@@ -47,8 +48,19 @@ pub fn block_without_a_pair() -> Vec<u8> {
 /// then short ones, for each p from 1 to 10 one with a run over the limit at
 /// that step.
 pub fn only_the_ring_refuses() -> Vec<Vec<u8>> {
-    include_str!("../../../data/strip-passes-ring-refuses.txt")
-        .lines()
+    telegrams_of(include_str!("../../../data/strip-passes-ring-refuses.txt"))
+}
+
+/// Well-formed telegrams of which one of conditions 2, 3 and 4 fails, in this
+/// order: condition 2, long and then short; condition 3, long; condition 4, long
+/// and then short. Then some of which several fail.
+pub fn well_formed_not_proper() -> Vec<Vec<u8>> {
+    telegrams_of(include_str!("../../../data/well-formed-not-proper.txt"))
+}
+
+/// The telegrams of a text, one a line.
+fn telegrams_of(text: &str) -> Vec<Vec<u8>> {
+    text.lines()
         .map(|line| of_text(line.as_bytes()).expect("a text of bits"))
         .collect()
 }

@@ -1,10 +1,11 @@
 //! Searching captures.
 
+use second::appendices::well_formed_not_proper;
 use second::format::{Format, FORMATS};
 use second::made::telegram_of;
 use second::random::Random;
 use second::telegram::cut;
-use second::{search, stretch, CAPTURE_LIMIT};
+use second::{check, read, read_well_formed, search, stretch, CAPTURE_LIMIT};
 
 #[test]
 fn first_place() {
@@ -65,4 +66,38 @@ fn noise() {
     assert_eq!(search(&random.bits(461)), Err(13));
     assert!(stretch(&random.bits(CAPTURE_LIMIT + 1)).is_empty());
     assert!(stretch(&[2; 500]).is_empty());
+}
+
+/// The search follows read (document 02, No. 2): a window of a telegram that is
+/// well-formed and not proper is not found, though read_well_formed reads it.
+#[test]
+fn not_proper() {
+    for telegram in well_formed_not_proper() {
+        let format = Format::of_telegram(telegram.len()).unwrap();
+        let window = cut(&telegram, 21, format.window_bits(), true);
+        assert_eq!(search(&window), Err(13));
+        assert!(stretch(&window).is_empty());
+        let mut output = [9; 830];
+        let number = check(&telegram).unwrap_err();
+        assert_eq!(read(&window, &mut output), Err(number));
+        assert!(read_well_formed(&window, &mut output).is_ok());
+    }
+}
+
+/// A window that read refuses before one that it accepts, of each format.
+#[test]
+fn not_proper_before_proper() {
+    let mut random = Random::new(22);
+    for telegram in well_formed_not_proper().iter().step_by(3) {
+        let refused = cut(telegram, 100, telegram.len() + 150, false);
+        for format in FORMATS {
+            let user = random.bits(format.user_bits());
+            let mut accepted = cut(&telegram_of(&user), 4, 1 + format.window_bits(), true);
+            accepted[0] ^= 1;
+            let found = search(&[&refused[..], &accepted].concat()).unwrap();
+            assert_eq!(found.place, refused.len() + 1);
+            assert_eq!((found.reading.format, found.reading.turn), (format, 5));
+            assert_eq!(found.user, user);
+        }
+    }
 }

@@ -3,9 +3,11 @@
 use std::io::Write;
 use std::process::{Command, Stdio};
 
+use second::appendices::well_formed_not_proper;
 use second::bits::text;
-use second::telegram::cut;
-use second::{encode_skipping, Format};
+use second::read::user_bits_of;
+use second::telegram::{b_of, cut};
+use second::{check, encode_skipping, Format};
 
 /// What the program writes to standard output and to standard error.
 fn written(kind: &str, input: &str) -> [String; 2] {
@@ -44,6 +46,7 @@ fn bad_input() {
         ("encode", 830),
         ("check", 1023),
         ("read", 1100),
+        ("read-well-formed", 1100),
         ("capture", 7500),
     ] {
         let full = "0".repeat(limit);
@@ -69,10 +72,12 @@ fn bad_input() {
 fn refused() {
     assert_eq!(run("encode", "01"), "balise encode 1\nbits 2\nrefused 1\n");
     assert_eq!(run("check", "01"), "balise check 1\nbits 2\nrefused 1\n");
-    assert_eq!(
-        run("read", &"0".repeat(462)),
-        "balise read 1\nbits 462\nrefused 7\n"
-    );
+    for kind in ["read", "read-well-formed"] {
+        assert_eq!(
+            run(kind, &"0".repeat(462)),
+            format!("balise {kind} 1\nbits 462\nrefused 7\n")
+        );
+    }
 }
 
 #[test]
@@ -93,13 +98,15 @@ fn accepted() {
         "balise check 1\nbits 341\nshort proper\n"
     );
     let window = cut(&telegram, 12, Format::Short.window_bits(), true);
-    assert_eq!(
-        run("read", &text(&window)),
-        format!(
-            "balise read 1\nbits 462\nshort turn 12 sb {b} flipped\n{}\n",
-            text(&user)
-        )
-    );
+    for kind in ["read", "read-well-formed"] {
+        assert_eq!(
+            run(kind, &text(&window)),
+            format!(
+                "balise {kind} 1\nbits 462\nshort turn 12 sb {b} flipped\n{}\n",
+                text(&user)
+            )
+        );
+    }
     assert_eq!(
         run("capture", &text(&window)),
         format!(
@@ -107,4 +114,33 @@ fn accepted() {
             text(&user)
         )
     );
+}
+
+/// Well-formed and not proper: read refuses the window and the search does not
+/// find it, and read-well-formed reads it.
+#[test]
+fn not_proper() {
+    for telegram in well_formed_not_proper() {
+        let format = Format::of_telegram(telegram.len()).unwrap();
+        let number = check(&telegram).unwrap_err();
+        let window = cut(&telegram, 7, format.window_bits(), false);
+        let (bits, window) = (window.len(), text(&window));
+        assert_eq!(
+            run("read", &window),
+            format!("balise read 1\nbits {bits}\nrefused {number}\n")
+        );
+        assert_eq!(
+            run("capture", &window),
+            format!("balise capture 1\nbits {bits}\nnone\n")
+        );
+        assert_eq!(
+            run("read-well-formed", &window),
+            format!(
+                "balise read-well-formed 1\nbits {bits}\n{} turn 7 sb {} upright\n{}\n",
+                format.name(),
+                b_of(&telegram, format),
+                text(&user_bits_of(&telegram, format).unwrap())
+            )
+        );
+    }
 }
