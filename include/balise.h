@@ -40,16 +40,26 @@ uint64_t balise_encode(const uint8_t *block, size_t block_len, uint8_t *output,
  * Refusals: 1, 2, 6 to 12. */
 uint64_t balise_check(const uint8_t *telegram, size_t telegram_len);
 
-/* Reads a window of 1100 or 462 bits.
+/* Reads a window of 1100 or 462 bits of a proper telegram.
  * output: at least 830 or 210 bytes; the user bits go into its front, and the
  * rest is kept. A refusal keeps every byte.
  * Answer: number, format, BALISE_READ_FLIPPED, _B and _TURN.
- * Refusals: 1, 2, 3, 5 to 9. */
+ * Refusals: 1, 2, 3, 5 to 12. With 10, 11 and 12 the telegram in the window is
+ * well-formed and not fit to burn. */
 uint64_t balise_read(const uint8_t *window, size_t window_len, uint8_t *output,
                      size_t output_len);
 
-/* Searches a capture of at most 7500 bits for the first window that reads:
- * places from 0 up, long before short at one place.
+/* Reads a window of 1100 or 462 bits of a well-formed telegram, proper or not:
+ * for boxes that are to be read and not approved. Parameters, answer and what is
+ * written are those of balise_read; but where that refuses with 10, 11 or 12, this
+ * call reads the window.
+ * Refusals: 1, 2, 3, 5 to 9. */
+uint64_t balise_read_well_formed(const uint8_t *window, size_t window_len, uint8_t *output,
+                                 size_t output_len);
+
+/* Searches a capture of at most 7500 bits for the first window that balise_read
+ * accepts: places from 0 up, long before short at one place. A window of a
+ * telegram that is well-formed and not proper is passed over.
  * Answer: as balise_read, of the window found, and BALISE_PLACE: the window is
  * capture[place] and on, BALISE_WINDOW_BITS(format) long, and lies in the
  * capture. Its user bits are those that balise_read writes for it.
@@ -76,8 +86,8 @@ uint64_t balise_search(const uint8_t *capture, size_t capture_len);
 #define BALISE_ENCODED_ESB(answer) ((unsigned)((uint64_t)(answer) >> 21 & 0x3ff))
 #define BALISE_ENCODED_COUNT(answer) ((uint32_t)((uint64_t)(answer) >> 31 & 0x7fffff))
 
-/* balise_read and balise_search: whether the window is flipped (1), the
- * scrambling bits, and the turn. */
+/* balise_read, balise_read_well_formed and balise_search: whether the window is
+ * flipped (1), the scrambling bits, and the turn. */
 #define BALISE_READ_FLIPPED(answer) ((unsigned)((uint64_t)(answer) >> 9 & 1))
 #define BALISE_READ_B(answer) ((unsigned)((uint64_t)(answer) >> 10 & 0xfff))
 #define BALISE_READ_TURN(answer) ((unsigned)((uint64_t)(answer) >> 22 & 0x3ff))

@@ -49,6 +49,12 @@ mod exported {
             output: *mut u8,
             output_len: usize,
         ) -> u64;
+        pub fn balise_read_well_formed(
+            window: *const u8,
+            window_len: usize,
+            output: *mut u8,
+            output_len: usize,
+        ) -> u64;
         pub fn balise_search(capture: *const u8, capture_len: usize) -> u64;
     }
 }
@@ -149,6 +155,23 @@ impl Answer {
     }
 }
 
+/// A call that takes a list and an output.
+type WithOutput = unsafe extern "C" fn(*const u8, usize, *mut u8, usize) -> u64;
+
+/// What one of the calls with an output answers.
+fn answer(call: WithOutput, input: &[u8], output: &mut [u8]) -> Answer {
+    // SAFETY: the pointers and lengths are those of slices that do not overlap,
+    // and the contracts ask nothing.
+    Answer(unsafe {
+        call(
+            input.as_ptr(),
+            input.len(),
+            output.as_mut_ptr(),
+            output.len(),
+        )
+    })
+}
+
 /// Encodes a block of [`Format::user_bits`], 830 or 210. The first pair's
 /// telegram goes into the front of `output`, which needs room for
 /// [`Format::telegram_bits`], 1023 or 341; [`MAX_TELEGRAM_BITS`] is enough for
@@ -156,17 +179,7 @@ impl Answer {
 ///
 /// Refuses with `Length`, `NotBit`, `OutputShort` and `NoPair`.
 pub fn encode(block: &[u8], output: &mut [u8]) -> Result<Encoded, Refusal> {
-    // SAFETY: the pointers and lengths are those of slices that do not overlap,
-    // and the contract asks nothing.
-    let answer = Answer(unsafe {
-        exported::balise_encode(
-            block.as_ptr(),
-            block.len(),
-            output.as_mut_ptr(),
-            output.len(),
-        )
-    });
-    answer.result(Answer::encoded)
+    answer(exported::balise_encode, block, output).result(Answer::encoded)
 }
 
 /// The format of a proper telegram, of [`Format::telegram_bits`], 1023 or 341.
@@ -180,27 +193,31 @@ pub fn check(telegram: &[u8]) -> Result<Format, Refusal> {
     answer.result(Answer::format)
 }
 
-/// Reads a window of [`Format::window_bits`], 1100 or 462. Its user bits go into
-/// the front of `output`, which needs room for [`Format::user_bits`], 830 or 210;
-/// [`MAX_USER_BITS`] is enough for both. A refusal keeps every byte.
+/// Reads a window of a proper telegram, of [`Format::window_bits`], 1100 or 462.
+/// Its user bits go into the front of `output`, which needs room for
+/// [`Format::user_bits`], 830 or 210; [`MAX_USER_BITS`] is enough for both. A
+/// refusal keeps every byte.
+///
+/// Refuses with `Length`, `NotBit`, `OutputShort`, `EndsDiffer`, `NotDivisible`,
+/// `NoTurn`, `Control` and `NotWord`, and with `OffStep`, `Repeating` and
+/// `Thinned` where the telegram is well-formed and not fit to burn.
+pub fn read(window: &[u8], output: &mut [u8]) -> Result<Reading, Refusal> {
+    answer(exported::balise_read, window, output).result(Answer::reading)
+}
+
+/// Reads a window of a well-formed telegram, proper or not: for boxes that are
+/// to be read and not approved. It answers and writes as [`read`]; but where that
+/// refuses with `OffStep`, `Repeating` or `Thinned`, it reads the window.
 ///
 /// Refuses with `Length`, `NotBit`, `OutputShort`, `EndsDiffer`, `NotDivisible`,
 /// `NoTurn`, `Control` and `NotWord`.
-pub fn read(window: &[u8], output: &mut [u8]) -> Result<Reading, Refusal> {
-    // SAFETY: as for `encode`.
-    let answer = Answer(unsafe {
-        exported::balise_read(
-            window.as_ptr(),
-            window.len(),
-            output.as_mut_ptr(),
-            output.len(),
-        )
-    });
-    answer.result(Answer::reading)
+pub fn read_well_formed(window: &[u8], output: &mut [u8]) -> Result<Reading, Refusal> {
+    answer(exported::balise_read_well_formed, window, output).result(Answer::reading)
 }
 
-/// Searches a capture of at most [`CAPTURE_LIMIT`] bits: places from 0 up, long
-/// before short at one place.
+/// Searches a capture of at most [`CAPTURE_LIMIT`] bits for the first window that
+/// [`read`] accepts: places from 0 up, long before short at one place. A window of
+/// a telegram that is well-formed and not proper is passed over.
 ///
 /// Refuses with `Length`, `NotBit` and `NoPlace`.
 pub fn search(capture: &[u8]) -> Result<Found, Refusal> {
