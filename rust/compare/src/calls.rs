@@ -2,6 +2,7 @@
 //! and leave the same bytes.
 
 use balise::Refusal;
+use second::bits::{flip, turn_right};
 use second::format::Format;
 use second::random::Random;
 use second::{Encoded, Found, Reading, Refused};
@@ -122,24 +123,70 @@ pub fn check(telegram: &[u8]) -> Result<Format, u8> {
     answer
 }
 
-/// Reads a window into an output of this length: the answer and the output.
-pub fn read(random: &mut Random, window: &[u8], room: usize) -> (Result<Reading, u8>, Vec<u8>) {
-    let ours = |output: &mut [u8]| {
-        balise::read(window, output)
-            .map(reading)
-            .map_err(Refusal::number)
-    };
+/// A window call of ours, and that of the second program.
+type Ours = fn(&[u8], &mut [u8]) -> Result<balise::Reading, Refusal>;
+type Second = fn(&[u8], &mut [u8]) -> Result<Reading, u8>;
+
+/// What a window call answers, and the output.
+type Read = (Result<Reading, u8>, Vec<u8>);
+
+fn read_by(random: &mut Random, ours: Ours, second: Second, window: &[u8], room: usize) -> Read {
     compared(
         random,
         room,
-        ours,
-        |output| second::read(window, output),
+        |output| ours(window, output).map(reading).map_err(Refusal::number),
+        |output| second(window, output),
         |reading| reading.format.user_bits(),
     )
 }
 
+/// Reads a window into an output of this length: the answer and the output.
+pub fn read(random: &mut Random, window: &[u8], room: usize) -> Read {
+    read_by(random, balise::read, second::read, window, room)
+}
+
+/// The same by the call that asks for no more than a well-formed telegram.
+pub fn read_well_formed(random: &mut Random, window: &[u8], room: usize) -> Read {
+    let (ours, second) = (balise::read_well_formed, second::read_well_formed);
+    read_by(random, ours, second, window, room)
+}
+
+/// What both window calls answer, `read` first (document 02, No. 2). They answer
+/// and write the same, and `check` accepts the telegram in the window; or the
+/// second accepts, and the first refuses with what `check` gives for it: 10, 11
+/// or 12.
+pub fn read_both(random: &mut Random, window: &[u8], room: usize) -> [Result<Reading, u8>; 2] {
+    let (proper, output) = read(random, window, room);
+    let (well_formed, other) = read_well_formed(random, window, room);
+    match (proper, well_formed) {
+        (Err(one), Err(other)) => assert_eq!(one, other),
+        (Ok(one), Ok(other_one)) => {
+            let m = one.format.user_bits();
+            assert_eq!(one, other_one);
+            assert_eq!(output[..m], other[..m]);
+        }
+        (Err(10..=12), Ok(_)) => {}
+        answers => panic!("{answers:?}"),
+    }
+    if let Ok(reading) = well_formed {
+        let checked = check(&telegram_in(window, &reading));
+        assert_eq!(checked.err(), proper.err());
+    }
+    [proper, well_formed]
+}
+
+/// The telegram in a window, turned back and upright.
+fn telegram_in(window: &[u8], reading: &Reading) -> Vec<u8> {
+    let telegram = turn_right(&window[..reading.format.telegram_bits()], reading.turn);
+    if reading.flipped {
+        flip(&telegram)
+    } else {
+        telegram
+    }
+}
+
 /// Searches a capture; the stretch is the window found, in the capture itself,
-/// and reads as the search says.
+/// and both window calls read it as the search says.
 pub fn search(random: &mut Random, capture: &[u8]) -> Result<Found, u8> {
     let second = second::search(capture);
     let stretch = balise::stretch(capture);
@@ -149,9 +196,11 @@ pub fn search(random: &mut Random, capture: &[u8]) -> Result<Found, u8> {
             assert_eq!(reading(ours.reading), found.reading);
             let window = &capture[found.place..][..found.reading.format.window_bits()];
             assert!(std::ptr::eq(stretch, window));
-            let (answer, user) = read(random, stretch, found.reading.format.user_bits());
-            assert_eq!(answer.as_ref(), Ok(&found.reading));
-            assert_eq!(user, found.user);
+            for read in [read, read_well_formed] {
+                let (answer, user) = read(random, stretch, found.reading.format.user_bits());
+                assert_eq!(answer.as_ref(), Ok(&found.reading));
+                assert_eq!(user, found.user);
+            }
         }
         (Err(refusal), Err(other)) => {
             assert_eq!(refusal.number(), *other);

@@ -1,8 +1,9 @@
-//! Inputs that provoke each refusal (document 01, "When the bench says no").
+//! Inputs that provoke each refusal (document 01, "When the bench says no"; of
+//! the window calls, document 02, No. 2).
 
 use crate::telegrams::*;
 use balise::Refusal;
-use second::appendices::block_without_a_pair;
+use second::appendices::{block_without_a_pair, well_formed_not_proper};
 use second::bits::{flip, turn_left};
 use second::encode::PAIRS;
 use second::format::{Format, FORMATS};
@@ -16,6 +17,7 @@ pub enum Call {
     Encode(Vec<u8>, usize),
     Check(Vec<u8>),
     Read(Vec<u8>, usize),
+    ReadWellFormed(Vec<u8>, usize),
     Search(Vec<u8>),
 }
 
@@ -26,6 +28,7 @@ impl Call {
             Call::Encode(..) => "encode",
             Call::Check(..) => "check",
             Call::Read(..) => "read",
+            Call::ReadWellFormed(..) => "read_well_formed",
             Call::Search(..) => "search",
         }
     }
@@ -36,6 +39,9 @@ impl Call {
             Call::Encode(block, room) => balise::encode(block, &mut vec![0; *room]).err(),
             Call::Check(telegram) => balise::check(telegram).err(),
             Call::Read(window, room) => balise::read(window, &mut vec![0; *room]).err(),
+            Call::ReadWellFormed(window, room) => {
+                balise::read_well_formed(window, &mut vec![0; *room]).err()
+            }
             Call::Search(capture) => balise::search(capture).err(),
         }
     }
@@ -47,6 +53,14 @@ fn with_no_bit(mut list: Vec<u8>) -> Vec<u8> {
     list
 }
 
+/// A window that both window calls refuse alike, lent this room.
+fn both_read(refusal: Refusal, window: Vec<u8>, room: usize) -> [(Refusal, Call); 2] {
+    [
+        (refusal, Call::Read(window.clone(), room)),
+        (refusal, Call::ReadWellFormed(window, room)),
+    ]
+}
+
 /// Lengths, bytes and room: refusals 1, 2 and 3.
 fn before_the_bits(random: &mut Random, format: Format) -> Vec<(Refusal, Call)> {
     let (m, n, l) = (
@@ -55,25 +69,26 @@ fn before_the_bits(random: &mut Random, format: Format) -> Vec<(Refusal, Call)> 
         format.window_bits(),
     );
     let (block, telegram, window) = (random.bits(m), random.bits(n), random.bits(l));
-    vec![
+    let mut calls = vec![
         (Refusal::Length, Call::Encode(random.bits(m - 1), n)),
         (Refusal::Length, Call::Check(random.bits(n + 1))),
-        (Refusal::Length, Call::Read(random.bits(l - 1), m)),
         (Refusal::NotBit, Call::Encode(with_no_bit(block.clone()), n)),
         (Refusal::NotBit, Call::Check(with_no_bit(telegram))),
-        (Refusal::NotBit, Call::Read(with_no_bit(window.clone()), m)),
         (Refusal::OutputShort, Call::Encode(block, n - 1)),
-        (Refusal::OutputShort, Call::Read(window, m - 1)),
-    ]
+    ];
+    calls.extend(both_read(Refusal::Length, random.bits(l - 1), m));
+    calls.extend(both_read(Refusal::NotBit, with_no_bit(window.clone()), m));
+    calls.extend(both_read(Refusal::OutputShort, window, m - 1));
+    calls
 }
 
-/// A telegram that check refuses, and a window of it that read refuses.
-fn both(refusal: Refusal, telegram: Vec<u8>, format: Format) -> [(Refusal, Call); 2] {
+/// A telegram that check refuses, and a window of it that both window calls
+/// refuse.
+fn all_three(refusal: Refusal, telegram: Vec<u8>, format: Format) -> Vec<(Refusal, Call)> {
     let window = cut(&telegram, 0, format.window_bits(), false);
-    [
-        (refusal, Call::Check(telegram)),
-        (refusal, Call::Read(window, format.user_bits())),
-    ]
+    let mut calls = vec![(refusal, Call::Check(telegram))];
+    calls.extend(both_read(refusal, window, format.user_bits()));
+    calls
 }
 
 /// Telegrams and windows that are not well-formed: refusals 5 to 9.
@@ -87,34 +102,38 @@ fn not_well_formed(random: &mut Random, format: Format) -> Vec<(Refusal, Call)> 
     let no_control = with_bits(&telegram, format, format.shaped_bits(), &[0, 0, 0]);
     let no_word = with_word(&telegram, format, 0, other_word(random));
     let mut calls = vec![
-        (Refusal::EndsDiffer, Call::Read(window, m)),
         (Refusal::NoTurn, Call::Check(turn_left(&telegram, 1))),
         (Refusal::Control, Call::Check(flip(&telegram))),
     ];
-    calls.extend(both(Refusal::NotDivisible, damaged, format));
-    calls.extend(both(
+    calls.extend(both_read(Refusal::EndsDiffer, window, m));
+    calls.extend(all_three(Refusal::NotDivisible, damaged, format));
+    calls.extend(all_three(
         Refusal::NoTurn,
         vec![0; format.telegram_bits()],
         format,
     ));
-    calls.extend(both(Refusal::Control, no_control, format));
-    calls.extend(both(Refusal::NotWord, no_word, format));
+    calls.extend(all_three(Refusal::Control, no_control, format));
+    calls.extend(all_three(Refusal::NotWord, no_word, format));
     calls
 }
 
-/// Well-formed telegrams that one condition bars: refusals 10 to 12.
-fn barred_telegrams(random: &mut Random) -> Vec<(Refusal, Call)> {
-    let draws = [
-        (Refusal::OffStep, one_word as Draw, refusal::OFF_STEP),
-        (Refusal::Repeating, repeating_words, refusal::PERIOD),
-        (Refusal::Thinned, thinning_words, refusal::THINNED),
-    ];
-    draws
-        .map(|(refusal, draw, number)| {
-            let telegram = barred(random, Format::Long, draw, number);
-            (refusal, Call::Check(telegram))
-        })
-        .into()
+/// Well-formed telegrams that are not proper, and windows of them: refusals 10
+/// to 12 of check and read. The other window call gives none of these.
+fn not_proper() -> Vec<(Refusal, Call)> {
+    let mut calls = Vec::new();
+    for telegram in well_formed_not_proper() {
+        let format = Format::of_telegram(telegram.len()).expect("a telegram");
+        let refusal = match second::check(&telegram) {
+            Err(refusal::OFF_STEP) => Refusal::OffStep,
+            Err(refusal::PERIOD) => Refusal::Repeating,
+            Err(refusal::THINNED) => Refusal::Thinned,
+            answer => panic!("{answer:?}"),
+        };
+        let window = cut(&telegram, 0, format.window_bits(), false);
+        calls.push((refusal, Call::Check(telegram)));
+        calls.push((refusal, Call::Read(window, format.user_bits())));
+    }
+    calls
 }
 
 /// Every refusal, with inputs of every call that gives it.
@@ -135,6 +154,6 @@ pub fn provoking(random: &mut Random) -> Vec<(Refusal, Call)> {
         calls.extend(before_the_bits(random, format));
         calls.extend(not_well_formed(random, format));
     }
-    calls.extend(barred_telegrams(random));
+    calls.extend(not_proper());
     calls
 }

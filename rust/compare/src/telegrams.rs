@@ -37,11 +37,6 @@ pub fn few_words(random: &mut Random, format: Format, kinds: usize) -> Vec<u16> 
 /// Draws the words of a long telegram.
 pub type Draw = fn(&mut Random) -> Vec<u16>;
 
-/// One word over and over: what is cut off step repeats too.
-pub fn one_word(random: &mut Random) -> Vec<u16> {
-    few_words(random, Format::Long, 1)
-}
-
 /// A telegram whose shaped data is drawn and that is accepted, whatever its
 /// pair.
 pub fn drawn(

@@ -1,13 +1,14 @@
 //! The bench sheet's cases that a call answers (document 01, "Bench sheet"):
-//! W10 to W12 and the line "Also", through both programs. Captures are in
-//! programs.rs, runs in conditions.rs.
+//! W10 to W12 and the line "Also", through both programs and both window calls.
+//! Captures are in programs.rs, runs in conditions.rs.
 
-use compare::calls::read;
+use compare::calls::read_both;
 use second::random::Random;
 
-/// The refusal with which both programs answer a window, lent this room.
+/// The refusal with which a window is answered, lent this room.
 fn refused(window: &[u8], room: usize) -> u8 {
-    let (answer, _) = read(&mut Random::new(41), window, room);
+    let [answer, other] = read_both(&mut Random::new(41), window, room);
+    assert_eq!(answer, other);
     answer.expect_err("a refusal")
 }
 

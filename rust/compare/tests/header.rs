@@ -4,6 +4,7 @@
 use balise::{Format, Reading, Refusal, CAPTURE_LIMIT, MAX_TELEGRAM_BITS, MAX_USER_BITS};
 use compare::programs::{repository, run, stdout};
 use compare::telegrams::random_telegram;
+use second::appendices::well_formed_not_proper;
 use second::bits::text;
 use second::format::FORMATS;
 use second::random::Random;
@@ -66,10 +67,19 @@ fn sizes() -> String {
 /// What the C program is to write on this capture.
 fn expected(capture: &[u8]) -> String {
     let mut user = [0; MAX_USER_BITS];
+    let mut lines = sizes();
     let zeros = balise::read(&[0; 462], &mut user);
     assert_eq!(zeros, Err(Refusal::NoTurn));
-    let mut lines = sizes();
     lines += &reading_line("read", zeros);
+    let zeros = balise::read_well_formed(&[0; 462], &mut user);
+    assert_eq!(zeros, Err(Refusal::NoTurn));
+    lines += &reading_line("read_well_formed", zeros);
+    lines += &reading_line("read", balise::read(capture, &mut user));
+    let answer = balise::read_well_formed(capture, &mut user);
+    lines += &reading_line("read_well_formed", answer);
+    if let Ok(reading) = answer {
+        writeln!(lines, "{}", text(&user[..reading.format.user_bits()])).unwrap();
+    }
     let answer = balise::search(capture);
     lines += &reading_line("search", answer.map(|found| found.reading));
     let place = answer.map_or(0, |found| found.place);
@@ -115,6 +125,14 @@ fn c_program() {
             assert_eq!(output, expected(&capture));
             assert!(output.contains("\ncheck 0 "));
         }
+    }
+    for telegram in well_formed_not_proper() {
+        let format = second::Format::of_telegram(telegram.len()).expect("a telegram");
+        let window = cut(&telegram, 9, format.window_bits(), false);
+        let output = written(&program, &window);
+        assert_eq!(output, expected(&window));
+        assert!(output.contains("\nread_well_formed 0 "));
+        assert!(output.ends_with("\nsearch 13 0 0 0 0\nplace 0\n"));
     }
     for capture in [
         vec![],

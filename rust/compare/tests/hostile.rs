@@ -1,11 +1,11 @@
-//! Any bytes to the four calls: 200,000 calls in all, or as many as the variable
+//! Any bytes to the five calls: 200,000 calls in all, or as many as the variable
 //! BALISE_CALLS says. Every answer and every byte of the outputs and around them
 //! is that of the second program.
 
-use compare::calls::{check, encode, read, search, Tally};
+use compare::calls::{check, encode, read_both, search, Tally};
 use compare::telegrams::*;
 use compare::{asked, burst, patterns};
-use second::appendices::{appendix_b, only_the_ring_refuses};
+use second::appendices::{appendix_b, only_the_ring_refuses, well_formed_not_proper};
 use second::bits::all_bits;
 use second::encode_skipping;
 use second::format::{Format, FORMATS};
@@ -31,6 +31,8 @@ fn share(hundredths: usize) -> usize {
 struct Inputs {
     random: Random,
     telegrams: Vec<Vec<u8>>,
+    /// Kept telegrams that are well-formed and not proper.
+    not_proper: Vec<Vec<u8>>,
 }
 
 impl Inputs {
@@ -41,10 +43,15 @@ impl Inputs {
         for format in FORMATS {
             telegrams.extend(random_telegrams(&mut random, format, TELEGRAMS));
         }
-        Inputs { random, telegrams }
+        Inputs {
+            random,
+            telegrams,
+            not_proper: [well_formed_not_proper(), only_the_ring_refuses()].concat(),
+        }
     }
 
-    /// Adds telegrams that are well-formed and that a condition bars.
+    /// Adds telegrams that are well-formed and that a condition bars, drawn and
+    /// kept.
     fn add_barred(&mut self) {
         for format in FORMATS {
             for kinds in 1..=3 {
@@ -59,7 +66,7 @@ impl Inputs {
             let telegram = barred(&mut self.random, Format::Long, draw, number);
             self.telegrams.push(telegram);
         }
-        self.telegrams.extend(only_the_ring_refuses());
+        self.telegrams.extend(self.not_proper.clone());
     }
 
     fn one_in(&mut self, count: usize) -> bool {
@@ -177,6 +184,14 @@ impl Inputs {
         list
     }
 
+    /// A telegram that is not proper, going round for a window and some bits more.
+    fn window_not_proper(&mut self) -> Vec<u8> {
+        let telegram = self.not_proper[self.random.below(self.not_proper.len())].clone();
+        let format = Format::of_telegram(telegram.len()).unwrap();
+        let length = format.window_bits() + self.random.below(30);
+        self.going_round((telegram, format), length)
+    }
+
     /// A capture: noise, telegrams going round and any bytes, end to end. Few
     /// have zeros or telegrams that are not read, at which every place costs the
     /// second program much.
@@ -191,7 +206,8 @@ impl Inputs {
                     let telegram = self.near_telegram();
                     self.going_round(telegram, size.min(1300))
                 }
-                4..2000 => self.random.bits(size),
+                4..40 => self.window_not_proper(),
+                40..2000 => self.random.bits(size),
                 _ => {
                     let telegram = self.telegram();
                     self.going_round(telegram, size)
@@ -229,7 +245,7 @@ fn moved(random: &mut Random, list: &[u8]) -> (Vec<u8>, usize) {
 fn encode_any_bytes() {
     let mut inputs = Inputs::new(101);
     let mut tally = Tally::default();
-    for _ in 0..share(25) {
+    for _ in 0..share(20) {
         let mut block = inputs.list([830, 210], true);
         let format = Format::of_block(block.len());
         let needed = format.unwrap_or(Format::Long).telegram_bits();
@@ -255,7 +271,7 @@ fn check_any_bytes() {
     let mut inputs = Inputs::new(102);
     inputs.add_barred();
     let mut tally = Tally::default();
-    for _ in 0..share(30) {
+    for _ in 0..share(24) {
         let telegram = inputs.list([1023, 341], true);
         let (buffer, at) = moved(&mut inputs.random, &telegram);
         tally.add(check(&buffer[at..]));
@@ -264,21 +280,27 @@ fn check_any_bytes() {
     assert_eq!(tally.numbers(), [0, 1, 2, 6, 7, 8, 9, 10, 11, 12]);
 }
 
+/// Each window goes to both window calls.
 #[test]
 fn read_any_bytes() {
     let mut inputs = Inputs::new(103);
-    let mut tally = Tally::default();
-    for _ in 0..share(35) {
+    inputs.add_barred();
+    let (mut tally, mut other_tally) = (Tally::default(), Tally::default());
+    for _ in 0..share(23) {
         let window = inputs.list([1100, 462], false);
         let needed = Format::of_window(window.len())
             .unwrap_or(Format::Long)
             .user_bits();
         let room = inputs.room(needed);
         let (buffer, at) = moved(&mut inputs.random, &window);
-        tally.add(read(&mut inputs.random, &buffer[at..], room).0);
+        let [proper, well_formed] = read_both(&mut inputs.random, &buffer[at..], room);
+        tally.add(proper);
+        other_tally.add(well_formed);
     }
     tally.print("calls of read, by number");
-    assert_eq!(tally.numbers(), [0, 1, 2, 3, 5, 6, 7, 8, 9]);
+    other_tally.print("calls of read_well_formed, by number");
+    assert_eq!(tally.numbers(), [0, 1, 2, 3, 5, 6, 7, 8, 9, 10, 11, 12]);
+    assert_eq!(other_tally.numbers(), [0, 1, 2, 3, 5, 6, 7, 8, 9]);
 }
 
 #[test]

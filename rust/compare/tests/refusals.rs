@@ -3,7 +3,7 @@
 
 use balise::Refusal;
 use compare::documents::{header_list, header_refusals, meanings};
-use compare::refusals::provoking;
+use compare::refusals::{provoking, Call};
 use second::random::Random;
 use std::collections::{BTreeMap, BTreeSet};
 
@@ -39,6 +39,21 @@ fn header_and_wrapper_name_what_the_library_answers() {
     }
     let named = Refusal::ALL.map(|refusal| (header_name(refusal), refusal.number()));
     assert_eq!(BTreeMap::from(named), answered);
+}
+
+/// Where read refuses with 10, 11 or 12, the other window call reads.
+#[test]
+fn read_well_formed_gives_no_refusal_of_a_condition() {
+    let mut windows = 0;
+    for (refusal, call) in provoking(&mut Random::new(96)) {
+        if let (10..=12, Call::Read(window, room)) = (refusal.number(), call) {
+            let answer = balise::read_well_formed(&window, &mut vec![0; room]);
+            assert!(answer.is_ok(), "{refusal}");
+            windows += 1;
+        }
+    }
+    assert!(windows > 0);
+    assert!(header_list("read_well_formed").is_subset(&header_list("read")));
 }
 
 /// The page adds to some what it means in one call.
