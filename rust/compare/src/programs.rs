@@ -20,10 +20,11 @@ const fn program(name: &'static str, word: &'static str, limit: usize) -> Progra
     Program { name, word, limit }
 }
 
-pub const PROGRAMS: [Program; 4] = [
+pub const PROGRAMS: [Program; 5] = [
     program("encode_block", "encode", MAX_USER_BITS),
     program("check_telegram", "check", MAX_TELEGRAM_BITS),
     program("read_window", "read", MAX_WINDOW_BITS),
+    program("read_well_formed", "read-well-formed", MAX_WINDOW_BITS),
     program("search_capture", "capture", CAPTURE_LIMIT),
 ];
 

@@ -1,11 +1,12 @@
-//! The four programs against the second program, on the same standard input:
+//! The five programs against the second program, on the same standard input:
 //! all that they write, to standard output and to standard error, is the same.
 //! Both are built before the tests run.
 
 use compare::programs::{repository, run, stderr, stdout, Program, PROGRAMS};
 use compare::telegrams::{random_telegram, telegram_of};
+use second::appendices::well_formed_not_proper;
 use second::bits::text;
-use second::format::FORMATS;
+use second::format::{Format, FORMATS};
 use second::random::Random;
 use second::telegram::cut;
 use std::fs::File;
@@ -184,11 +185,35 @@ fn windows_and_captures() {
                 window[place] ^= 1;
             }
             agreed("read", text(&window).as_bytes());
+            agreed("read-well-formed", text(&window).as_bytes());
             let before = random.below(3000);
             let mut capture = random.bits(before);
             capture.extend(&window);
             capture.extend(random.bits(200));
             agreed("capture", text(&capture).as_bytes());
+        }
+    }
+}
+
+/// Windows of telegrams that are well-formed and not proper: read refuses them,
+/// the search passes over them, and read-well-formed reads them.
+#[test]
+fn windows_that_are_not_proper() {
+    let mut random = Random::new(35);
+    let accepted = text(&cut(&telegram_of(&random.bits(210)), 0, 462, false));
+    for telegram in well_formed_not_proper() {
+        let format = Format::of_telegram(telegram.len()).expect("a telegram");
+        let turn = random.below(telegram.len());
+        for flipped in [false, true] {
+            let window = text(&cut(&telegram, turn, format.window_bits(), flipped));
+            let number = second::check(&telegram).expect_err("a refusal");
+            let refused = agreed("read", window.as_bytes());
+            assert!(refused.ends_with(&format!("\nrefused {number}\n")));
+            let read = agreed("read-well-formed", window.as_bytes());
+            assert_eq!(read.lines().count(), 4);
+            assert!(agreed("capture", window.as_bytes()).ends_with("none\n"));
+            let capture = format!("{window}\n{accepted}\n");
+            assert!(agreed("capture", capture.as_bytes()).contains("\nshort place "));
         }
     }
 }

@@ -1,17 +1,18 @@
 //! What is written, and the exit status.
 
 use crate::scratch::{assert_answer, assert_no_answer, Scratch};
-use crate::{example, proper, BAD, PROPER};
+use crate::{example, not_proper, proper, BAD, PROPER};
 use compare::documents::{meanings, Meaning};
-use compare::programs::{stderr, stdout};
+use compare::programs::{stderr, stdout, PROGRAMS};
 use std::fs;
 
-/// The four commands, each with an input that is accepted.
-fn accepted() -> [(&'static str, String); 4] {
+/// The five commands, each with an input that is accepted.
+fn accepted() -> [(&'static str, String); 5] {
     [
         ("encode", example("encode_block")),
         ("check", proper()),
         ("read", example("read_window")),
+        ("read-well-formed", not_proper()),
         ("search", example("search_capture")),
     ]
 }
@@ -80,6 +81,21 @@ fn only_line_four() {
     assert_no_answer(&ran, "one file at a time");
 }
 
+/// What read refuses with 10, and read-well-formed reads.
+#[test]
+fn a_window_that_is_not_proper() {
+    let scratch = Scratch::built();
+    scratch.write("window", &not_proper());
+    let ran = scratch.balise(&["read", "--status", "window"], b"");
+    assert_answer(&ran, 1, "balise read 1\nbits 1100\nrefused 10\n");
+    let ran = scratch.balise(&["search", "--status", "window"], b"");
+    assert_answer(&ran, 1, "balise capture 1\nbits 1100\nnone\n");
+    let ran = scratch.balise(&["read-well-formed", "--status", "window"], b"");
+    assert_eq!(ran.status.code(), Some(0));
+    let answer = stdout(&ran);
+    assert!(answer.starts_with("balise read-well-formed 1\nbits 1100\nlong turn 0 sb "));
+}
+
 #[test]
 fn what_is_wrong_with_a_bad_input() {
     let scratch = Scratch::built();
@@ -88,6 +104,7 @@ fn what_is_wrong_with_a_bad_input() {
         ("encode", 830),
         ("check", 1023),
         ("read", 1100),
+        ("read-well-formed", 1100),
         ("search", 7500),
     ] {
         let ran = scratch.balise(&[command], more(limit).as_bytes());
@@ -206,6 +223,7 @@ fn usage() {
         let ran = scratch.balise(words, b"");
         assert_eq!(ran.status.code(), Some(0));
         assert!(stdout(&ran).starts_with("usage: balise COMMAND"));
+        assert!(stdout(&ran).contains("\n  read-well-formed\n"));
     }
     assert_no_answer(&scratch.balise(&[], b""), "usage: balise");
     assert_no_answer(&scratch.balise(&["burn"], b""), "no command 'burn'");
@@ -230,7 +248,9 @@ fn version() {
     let scratch = Scratch::new();
     let before = stdout(&scratch.balise_alone(&["--version"], b""));
     assert!(before.starts_with("balise 1\nsource "));
-    assert!(before.ends_with("search_capture: not built\n"));
+    for program in PROGRAMS {
+        assert!(before.contains(&format!("\n{}: not built\n", program.name)));
+    }
     assert_answer(&scratch.balise(&["check"], proper().as_bytes()), 0, PROPER);
     let after = stdout(&scratch.balise_alone(&["--version"], b""));
     assert!(after.contains("\ncheck_telegram: kit of the tests\n"));

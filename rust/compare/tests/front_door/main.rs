@@ -8,6 +8,9 @@ mod inputs;
 mod scratch;
 
 use compare::documents::document;
+use second::appendices::well_formed_not_proper;
+use second::bits::text;
+use second::telegram::cut;
 
 /// A telegram fit to burn, as a text.
 fn proper() -> String {
@@ -17,6 +20,12 @@ fn proper() -> String {
 /// What a program is run on by the toolchain.
 fn example(program: &str) -> String {
     document(&format!("crates/{program}/stdin"))
+}
+
+/// A window of a long telegram that is well-formed and that condition 2 bars, as
+/// a text.
+fn not_proper() -> String {
+    text(&cut(&well_formed_not_proper()[0], 0, 1100, false))
 }
 
 const PROPER: &str = "balise check 1\nbits 1023\nlong proper\n";

@@ -114,7 +114,7 @@ impl Scratch {
         scratch
     }
 
-    /// A folder in which the four programs are built.
+    /// A folder in which all programs are built.
     pub fn built() -> Scratch {
         let scratch = Scratch::new();
         let ran = scratch.balise(&["build"], b"");
