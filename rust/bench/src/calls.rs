@@ -1,11 +1,13 @@
 //! The public calls against the second program's.
 
-use crate::{heading, microseconds, plain, row, set, timed_row, INPUTS, SETS};
-use balise::MAX_USER_BITS;
+use crate::{heading, microseconds, plain, row, set, timed, timed_row, INPUTS, SETS};
+use balise::{Refusal, MAX_USER_BITS};
 use second::format::{Format, FORMATS};
 use second::made::random_telegrams;
 use second::random::Random;
 use second::telegram::cut;
+use second::Reading;
+use std::fmt::Debug;
 use std::hint::black_box;
 
 /// Blocks of each format to encode.
@@ -83,37 +85,75 @@ fn check_row(random: &mut Random, proper: &[Vec<u8>], format: Format) {
     timed_row(&name, INPUTS, "1.5", ours, plain);
 }
 
-/// Prints the row of reading for a format: windows at any turn, half of them
-/// flipped. Plain Rust and the second program read them alike.
-fn read_row(random: &mut Random, proper: &[Vec<u8>], format: Format) {
-    let inputs: Vec<Vec<u8>> = (0..SETS * INPUTS)
+/// A window call: its name, ours, that of plain Rust and the second program's.
+struct WindowCall {
+    name: &'static str,
+    ours: fn(&[u8], &mut [u8]) -> Result<balise::Reading, Refusal>,
+    plain: fn(&[u8], &mut [u8]) -> Result<Reading, u8>,
+    second: fn(&[u8], &mut [u8]) -> Result<Reading, u8>,
+}
+
+const READ: WindowCall = WindowCall {
+    name: "read",
+    ours: balise::read,
+    plain: plain::read,
+    second: second::read,
+};
+
+const READ_WELL_FORMED: WindowCall = WindowCall {
+    name: "read_well_formed",
+    ours: balise::read_well_formed,
+    plain: plain::read_well_formed,
+    second: second::read_well_formed,
+};
+
+/// Windows at any turn, half of them flipped.
+fn windows(random: &mut Random, proper: &[Vec<u8>], format: Format) -> Vec<Vec<u8>> {
+    (0..SETS * INPUTS)
         .map(|i| {
             let telegram = &proper[random.below(TELEGRAMS)];
             let turn = random.below(format.telegram_bits());
             cut(telegram, turn, format.window_bits(), i % 2 == 1)
         })
-        .collect();
+        .collect()
+}
+
+/// One of the sides of a window call on a set of windows.
+fn reading<'a, T: 'a, E: Debug + 'a>(
+    call: fn(&[u8], &mut [u8]) -> Result<T, E>,
+    inputs: &'a [Vec<u8>],
+) -> impl FnMut(usize) + 'a {
     let mut out = [0; MAX_USER_BITS];
-    let (mut plain_out, mut second_out) = (out, out);
-    for window in set(&inputs, 0) {
-        let expected = second::read(window, &mut second_out);
-        assert_eq!(plain::read(window, &mut plain_out), expected);
-        assert_eq!(plain_out, second_out);
-    }
-    let ours = |i| {
-        for window in set(&inputs, i) {
-            black_box(balise::read(black_box(window), &mut out)).expect("a reading");
+    move |i| {
+        for window in set(inputs, i) {
+            black_box(call(black_box(window), &mut out)).expect("a reading");
             black_box(&out);
         }
-    };
-    let plain = |i| {
-        for window in set(&inputs, i) {
-            black_box(plain::read(black_box(window), &mut plain_out)).expect("a reading");
-            black_box(&plain_out);
-        }
-    };
-    let name = format!("read, {}", format.name());
+    }
+}
+
+/// Prints the row of a window call for a format. Plain Rust and the second
+/// program read the windows alike.
+fn read_row(call: &WindowCall, inputs: &[Vec<u8>], format: Format) {
+    let (mut plain_out, mut second_out) = ([0; MAX_USER_BITS], [0; MAX_USER_BITS]);
+    for window in set(inputs, 0) {
+        let expected = (call.second)(window, &mut second_out);
+        assert_eq!((call.plain)(window, &mut plain_out), expected);
+        assert_eq!(plain_out, second_out);
+    }
+    let name = format!("{}, {}", call.name, format.name());
+    let (ours, plain) = (reading(call.ours, inputs), reading(call.plain, inputs));
     timed_row(&name, INPUTS, "1.5", ours, plain);
+}
+
+/// How many times the time of our read_well_formed our read takes.
+fn read_ratio(inputs: &[Vec<u8>]) -> f64 {
+    let (proper, well_formed) = timed(
+        INPUTS,
+        reading(READ.ours, inputs),
+        reading(READ_WELL_FORMED.ours, inputs),
+    );
+    proper / well_formed
 }
 
 pub fn calls() {
@@ -135,9 +175,18 @@ pub fn calls() {
     println!("plain Rust with the same algorithm, written for speed.");
     println!();
     heading();
-    for format in FORMATS {
+    let ratios = FORMATS.map(|format| {
         let proper = random_telegrams(&mut random, format, TELEGRAMS);
         check_row(&mut random, &proper, format);
-        read_row(&mut random, &proper, format);
-    }
+        let inputs = windows(&mut random, &proper, format);
+        read_row(&READ, &inputs, format);
+        read_row(&READ_WELL_FORMED, &inputs, format);
+        read_ratio(&inputs)
+    });
+    println!();
+    println!("On the same windows, in turn, our read takes so many times the time of our");
+    println!(
+        "read_well_formed: {:.2} long, {:.2} short. Conditions 2, 3 and 4 are the difference.",
+        ratios[0], ratios[1]
+    );
 }

@@ -1,9 +1,12 @@
 //! The search of a capture against the second program's, and how its time grows.
 
 use crate::{heading, microseconds, row};
+use second::appendices::well_formed_not_proper;
+use second::conditions::{failing_conditions, thinned_run, THINNED_RUN};
 use second::format::{Format, FORMATS};
 use second::made::{random_telegram, with_bits};
 use second::random::Random;
+use second::refusal;
 use second::telegram::cut;
 use second::CAPTURE_LIMIT;
 use std::hint::black_box;
@@ -70,13 +73,40 @@ fn other_control(random: &mut Random, format: Format) -> Vec<u8> {
     capture
 }
 
+/// How many thinned rings of a telegram are tested, up to the first with a run
+/// that is too long.
+fn rings_tested(telegram: &[u8]) -> usize {
+    (1..=4)
+        .flat_map(|k| (0..11).map(move |alignment| (k, alignment)))
+        .take_while(|&(k, alignment)| thinned_run(telegram, k, alignment) <= THINNED_RUN)
+        .count()
+}
+
+/// A well-formed telegram that condition 4 alone bars, going round: every place
+/// takes all tests. Of those that are kept, the one at which condition 4 takes
+/// most.
+fn not_proper(format: Format) -> Vec<u8> {
+    let telegram = well_formed_not_proper()
+        .into_iter()
+        .filter(|telegram| telegram.len() == format.telegram_bits())
+        .filter(|telegram| failing_conditions(telegram, format).eq([refusal::THINNED]))
+        .max_by_key(|telegram| rings_tested(telegram))
+        .expect("a telegram");
+    let capture = cut(&telegram, 0, CAPTURE_LIMIT, false);
+    assert!(balise::search(&capture).is_err());
+    capture
+}
+
 /// Prints the ratios for captures of the full length.
 fn ratios(random: &mut Random) {
     println!("The search of a capture of {CAPTURE_LIMIT} bits, the least of several times; plain is the second");
     println!(
-        "program. Zeros, and telegrams whose control bits alone are wrong, are the captures at"
+        "program. Zeros, telegrams whose control bits alone are wrong, and well-formed telegrams"
     );
-    println!("which every place costs most.");
+    println!(
+        "that condition 4 alone bars, are the captures at which every place costs most; of the"
+    );
+    println!("last every place takes all tests.");
     println!();
     heading();
     least_row("noise", &noise(random, CAPTURE_LIMIT), 101);
@@ -89,6 +119,10 @@ fn ratios(random: &mut Random) {
     for format in FORMATS {
         let name = format!("{}, other control bits", format.name());
         least_row(&name, &[other_control(random, format)], 3);
+    }
+    for format in FORMATS {
+        let name = format!("{}, well-formed, condition 4 fails", format.name());
+        least_row(&name, &[not_proper(format)], 3);
     }
 }
 

@@ -56,22 +56,28 @@ fn row(name: &str, ours: f64, plain: f64, aim: &str) {
     println!("| {name} | {ours:.digits$} | {ratio:.2} | {aim} |");
 }
 
-/// Times both sides and prints a row. Each closure does a number of calls on a
-/// set of inputs.
+/// Times both sides in turn and prints a row. Each closure does a number of calls
+/// on a set of inputs.
 fn timed_row(
     name: &str,
     calls: usize,
     aim: &str,
-    mut ours: impl FnMut(usize),
-    mut plain: impl FnMut(usize),
+    ours: impl FnMut(usize),
+    plain: impl FnMut(usize),
 ) {
-    let (mut our_times, mut plain_times) = (Vec::new(), Vec::new());
+    let (ours, plain) = timed(calls, ours, plain);
+    row(name, ours, plain, aim);
+}
+
+/// The median times of a call on both sides, taken in turn, in microseconds.
+fn timed(calls: usize, mut one: impl FnMut(usize), mut other: impl FnMut(usize)) -> (f64, f64) {
+    let (mut times, mut other_times) = (Vec::new(), Vec::new());
     for repetition in 0..REPETITIONS {
         let i = repetition % SETS;
-        our_times.push(microseconds(|| ours(i)) / calls as f64);
-        plain_times.push(microseconds(|| plain(i)) / calls as f64);
+        times.push(microseconds(|| one(i)) / calls as f64);
+        other_times.push(microseconds(|| other(i)) / calls as f64);
     }
-    row(name, median(our_times), median(plain_times), aim);
+    (median(times), median(other_times))
 }
 
 /// Prints docs/PERFORMANCE.md, with the seconds of the check from what

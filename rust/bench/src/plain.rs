@@ -3,6 +3,7 @@
 
 use second::conditions::{off_step_limit, THINNED_RUN};
 use second::format::Format;
+use second::read::Asked;
 use second::telegram::CONTROL;
 use second::words;
 use second::{refusal, Reading};
@@ -137,14 +138,24 @@ static NUMBERS: LazyLock<[u16; 2048]> = LazyLock::new(|| {
 
 /// Reads a window, as the second program's `read`.
 pub fn read(window: &[u8], output: &mut [u8]) -> Result<Reading, u8> {
+    read_asked(Asked::Proper, window, output)
+}
+
+/// Reads a window, as the second program's `read_well_formed`.
+pub fn read_well_formed(window: &[u8], output: &mut [u8]) -> Result<Reading, u8> {
+    read_asked(Asked::WellFormed, window, output)
+}
+
+fn read_asked(asked: Asked, window: &[u8], output: &mut [u8]) -> Result<Reading, u8> {
     match Format::of_window(window.len()).ok_or(refusal::LENGTH)? {
-        Format::Long => read_as::<F, G>(Format::Long, window, output),
-        Format::Short => read_as::<SHORT_F, SHORT_G>(Format::Short, window, output),
+        Format::Long => read_as::<F, G>(Format::Long, asked, window, output),
+        Format::Short => read_as::<SHORT_F, SHORT_G>(Format::Short, asked, window, output),
     }
 }
 
 fn read_as<const F: u128, const G: u128>(
     format: Format,
+    asked: Asked,
     window: &[u8],
     output: &mut [u8],
 ) -> Result<Reading, u8> {
@@ -171,7 +182,7 @@ fn read_as<const F: u128, const G: u128>(
     if flipped {
         telegram.iter_mut().for_each(|bit| *bit = 1 - *bit);
     }
-    let b = user_bits(format, telegram, output)?;
+    let b = user_bits(format, asked, telegram, output)?;
     Ok(Reading {
         format,
         b,
@@ -181,8 +192,8 @@ fn read_as<const F: u128, const G: u128>(
 }
 
 /// Writes the user bits of a telegram and gives its scrambling bits, or
-/// refusal 8 or 9.
-fn user_bits(format: Format, telegram: &[u8], output: &mut [u8]) -> Result<u16, u8> {
+/// refusal 8 or 9, or 10 to 12 where a proper telegram is asked for.
+fn user_bits(format: Format, asked: Asked, telegram: &[u8], output: &mut [u8]) -> Result<u16, u8> {
     let (_, fields) = telegram.split_at(format.shaped_bits());
     if fields[..3] != CONTROL {
         return Err(refusal::CONTROL);
@@ -197,6 +208,9 @@ fn user_bits(format: Format, telegram: &[u8], output: &mut [u8]) -> Result<u16, 
             return Err(refusal::WORD);
         }
         write_number(found.into(), ten);
+    }
+    if asked == Asked::Proper {
+        conditions(format, telegram)?;
     }
     let b = number(&fields[3..15]);
     descramble(b, &scrambled[..format.user_bits()], output);
@@ -317,6 +331,19 @@ pub fn condition_4(format: Format, telegram: &[u8]) -> bool {
         && thinned_within::<16>(format, telegram, &mut ring)
 }
 
+/// Conditions 2, 3 and 4: the refusal of the first that fails.
+fn conditions(format: Format, telegram: &[u8]) -> Result<(), u8> {
+    if !condition_2(format, telegram) {
+        Err(refusal::OFF_STEP)
+    } else if !condition_3(format, telegram) {
+        Err(refusal::PERIOD)
+    } else if !condition_4(format, telegram) {
+        Err(refusal::THINNED)
+    } else {
+        Ok(())
+    }
+}
+
 /// Checks a telegram, as the second program's `check`.
 pub fn check(telegram: &[u8]) -> Result<Format, u8> {
     match Format::of_telegram(telegram.len()).ok_or(refusal::LENGTH)? {
@@ -336,13 +363,7 @@ fn check_as<const F: u128, const G: u128>(format: Format, telegram: &[u8]) -> Re
         Err(refusal::CONTROL)
     } else if telegram.chunks_exact(11).any(|word| !is_word(&VALID, word)) {
         Err(refusal::WORD)
-    } else if !condition_2(format, telegram) {
-        Err(refusal::OFF_STEP)
-    } else if !condition_3(format, telegram) {
-        Err(refusal::PERIOD)
-    } else if !condition_4(format, telegram) {
-        Err(refusal::THINNED)
     } else {
-        Ok(format)
+        conditions(format, telegram).map(|()| format)
     }
 }

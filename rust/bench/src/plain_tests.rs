@@ -1,10 +1,11 @@
-//! Plain Rust's check and read against the proved calls and the second program.
+//! Plain Rust's check and window calls against the proved calls and the second
+//! program.
 
-use crate::plain::{check, condition_2, condition_3, condition_4, read};
+use crate::plain::{check, condition_2, condition_3, condition_4, read, read_well_formed};
 use compare::calls::{self, Tally};
 use compare::refusals::{provoking, Call};
 use compare::telegrams::*;
-use second::appendices::only_the_ring_refuses;
+use second::appendices::{only_the_ring_refuses, well_formed_not_proper};
 use second::bits::{flip, turn_left};
 use second::conditions::{self, off_step_limit, unthinned, THINNED_RUN};
 use second::format::{Format, FORMATS};
@@ -12,6 +13,7 @@ use second::made::with_stretch;
 use second::random::Random;
 use second::rings::{one_run, ring_of_words, runs_about, words_as};
 use second::telegram::{cut, well_formed};
+use second::Reading;
 
 /// Compares plain Rust's answer with that of the proved call and of the
 /// second program.
@@ -21,16 +23,43 @@ fn compare_check(tally: &mut Tally, telegram: &[u8]) {
     tally.add(answer);
 }
 
-/// The same of a window, with what is written.
-fn compare_read(tally: &mut Tally, random: &mut Random, window: &[u8], room: usize) {
+/// A window call of plain Rust, and both programs' one, with the output.
+type Plain = fn(&[u8], &mut [u8]) -> Result<Reading, u8>;
+type Both = fn(&mut Random, &[u8], usize) -> (Result<Reading, u8>, Vec<u8>);
+
+/// What each window call of plain Rust answered.
+#[derive(Default)]
+struct Windows {
+    proper: Tally,
+    well_formed: Tally,
+}
+
+/// Compares plain Rust's answer and what it writes with those of the proved call
+/// and of the second program.
+fn compare_by(
+    random: &mut Random,
+    plain: Plain,
+    both: Both,
+    window: &[u8],
+    room: usize,
+) -> Result<Reading, u8> {
     let mut output = vec![0; room];
-    let answer = read(window, &mut output);
-    let (expected, user) = calls::read(random, window, room);
+    let answer = plain(window, &mut output);
+    let (expected, user) = both(random, window, room);
     assert_eq!(answer, expected);
     let written = answer.as_ref().map_or(0, |r| r.format.user_bits());
     assert_eq!(output[..written], user[..written]);
     assert!(output[written..].iter().all(|&byte| byte == 0));
-    tally.add(answer);
+    answer
+}
+
+/// Compares both window calls.
+fn compare_read(windows: &mut Windows, random: &mut Random, window: &[u8], room: usize) {
+    let answer = compare_by(random, read, calls::read, window, room);
+    windows.proper.add(answer);
+    let both = calls::read_well_formed;
+    let answer = compare_by(random, read_well_formed, both, window, room);
+    windows.well_formed.add(answer);
 }
 
 /// Well-formed telegrams, and some that are not.
@@ -55,8 +84,11 @@ fn telegrams(random: &mut Random, format: Format) -> Vec<Vec<u8>> {
         let draw = |random: &mut Random| few_words(random, format, kinds);
         list.push(drawn(random, format, draw, |t| well_formed(t, format)));
     }
-    let seam = only_the_ring_refuses().into_iter();
-    list.extend(seam.filter(|t| t.len() == format.telegram_bits()));
+    let kept = [only_the_ring_refuses(), well_formed_not_proper()].concat();
+    list.extend(
+        kept.into_iter()
+            .filter(|t| t.len() == format.telegram_bits()),
+    );
     if format == Format::Long {
         for (draw, number) in [(repeating_words as Draw, 11), (thinning_words, 12)] {
             list.extend((0..5).map(|_| barred(random, format, draw, number)));
@@ -68,7 +100,7 @@ fn telegrams(random: &mut Random, format: Format) -> Vec<Vec<u8>> {
 #[test]
 fn answers_are_those_of_the_proved_calls() {
     let mut random = Random::new(4);
-    let (mut checked, mut windows) = (Tally::default(), Tally::default());
+    let (mut checked, mut windows) = (Tally::default(), Windows::default());
     for format in FORMATS {
         for telegram in telegrams(&mut random, format) {
             compare_check(&mut checked, &telegram);
@@ -82,7 +114,7 @@ fn answers_are_those_of_the_proved_calls() {
     for (_, call) in provoking(&mut random) {
         match call {
             Call::Check(telegram) => compare_check(&mut checked, &telegram),
-            Call::Read(window, room) => {
+            Call::Read(window, room) | Call::ReadWellFormed(window, room) => {
                 compare_read(&mut windows, &mut random, &window, room);
             }
             _ => {}
@@ -90,8 +122,14 @@ fn answers_are_those_of_the_proved_calls() {
     }
     checked.print("telegrams checked by plain Rust, by number");
     assert_eq!(checked.numbers(), [0, 1, 2, 6, 7, 8, 9, 10, 11, 12]);
-    windows.print("windows read by plain Rust, by number");
-    assert_eq!(windows.numbers(), [0, 1, 2, 3, 5, 6, 7, 8, 9]);
+    let Windows {
+        proper,
+        well_formed,
+    } = windows;
+    proper.print("windows read by plain Rust, by number");
+    assert_eq!(proper.numbers(), [0, 1, 2, 3, 5, 6, 7, 8, 9, 10, 11, 12]);
+    well_formed.print("windows read by plain Rust's read_well_formed, by number");
+    assert_eq!(well_formed.numbers(), [0, 1, 2, 3, 5, 6, 7, 8, 9]);
 }
 
 #[test]
