@@ -4,10 +4,10 @@
 use compare::calls::{check, Tally};
 use compare::telegrams::*;
 use compare::{both_formats, burst, other_lengths, patterns};
-use second::appendices::{appendix_b, only_the_ring_refuses};
+use second::appendices::{appendix_b, only_the_ring_refuses, well_formed_not_proper};
 use second::bits::{bits_of, flip, turn_left};
 use second::conditions::{
-    condition_3, condition_4, off_step, off_step_limit, off_step_run, Course,
+    condition_3, condition_4, failing_conditions, off_step, off_step_limit, off_step_run, Course,
 };
 use second::cyclic::remainder_by_g;
 use second::encode::first_pair;
@@ -144,6 +144,17 @@ fn one_condition(tally: &mut Tally, random: &mut Random, draw: Draw, number: u8)
     }
 }
 
+/// The kept telegrams that are well-formed and not proper: the lowest number of
+/// the conditions that fail.
+fn not_proper(tally: &mut Tally) {
+    for telegram in well_formed_not_proper() {
+        let format = Format::of_telegram(telegram.len()).unwrap();
+        assert!(well_formed(&telegram, format));
+        let number = failing_conditions(&telegram, format).next().unwrap();
+        expect(tally, &telegram, Err(number));
+    }
+}
+
 #[test]
 fn telegrams() {
     let mut tally = Tally::default();
@@ -158,6 +169,7 @@ fn telegrams() {
     }
     one_condition(&mut tally, &mut random, repeating_words, 11);
     one_condition(&mut tally, &mut random, thinning_words, 12);
+    not_proper(&mut tally);
     tally.print("telegrams checked, by number");
     assert_eq!(tally.numbers(), [0, 1, 2, 6, 7, 8, 9, 10, 11, 12]);
     assert!(tally.total() >= 5_000);
