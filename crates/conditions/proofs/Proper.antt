@@ -3,7 +3,7 @@ use mathlib.Core.Bool.{_&&_}
 use mathlib.Core.List.{List}
 use Prim.Native.Nat.{ℕ}
 use lib.Dec.{T}
-use Rattle.bits.proofs.And.{and-left, and-right, and-of}
+use Rattle.bits.proofs.And.{and-left, and-right}
 use Rattle.formats.specs.declared.format.Format.{Format}
 use Rattle.formats.specs.Numbers.{numbersOf}
 use Rattle.telegrams.specs.Fields.{wellFormed}
@@ -31,12 +31,3 @@ module _ (format : Format) (b : List ℕ) where
         not-repeating = and-left r t last;
         thinned = and-right r t last;
       }
-
-  pub proper-from : Proper format b → T (proper format b)
-  unfolding proper
-  proper-from p =
-      let o = offStepWithin format b in
-      let r = notRepeating format b in
-      let t = thinnedWithin format b in
-      and-of (wellFormed (numbersOf format) b) (o && (r && t)) (p .well-formed)
-      (and-of o (r && t) (p .off-step) (and-of r t (p .not-repeating) (p .thinned)))

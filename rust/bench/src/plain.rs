@@ -272,26 +272,30 @@ pub fn condition_2(format: Format, telegram: &[u8]) -> bool {
     (1..=10).all(|p| runs_within(&ring, p, format.words(), off_step_limit(p, format)))
 }
 
-/// The places in which 22 bits from one place and from another differ.
-fn differing(bits: &[u8], place: usize, by: usize) -> usize {
+/// Whether 22 bits from one place and from another differ in at least so many
+/// places; when so many differ, the others are not looked at.
+fn apart(least: usize, bits: &[u8], place: usize, by: usize) -> bool {
     let (mut at, mut other) = (place, place_after(place, by, bits.len()));
     let mut count = 0;
     for _ in 0..22 {
+        if least <= count {
+            return true;
+        }
         count += usize::from(bits[at] != bits[other]);
         at = place_after(at, 1, bits.len());
         other = place_after(other, 1, bits.len());
     }
-    count
+    least <= count
 }
 
 /// Condition 3; a short telegram meets it.
 pub fn condition_3(format: Format, telegram: &[u8]) -> bool {
     format == Format::Short
         || (0..telegram.len()).step_by(11).all(|place| {
-            differing(telegram, place, 341) >= 3
+            apart(3, telegram, place, 341)
                 && [338, 339, 340, 342, 343, 344]
                     .iter()
-                    .all(|&by| differing(telegram, place, by) >= 2)
+                    .all(|&by| apart(2, telegram, place, by))
         })
 }
 

@@ -1,5 +1,6 @@
 //! Telegrams for the tests, made by the second program.
 
+use second::appendices::{only_the_ring_refuses, well_formed_not_proper};
 use second::bits::{bits_of, distance, number_of};
 use second::check;
 use second::cyclic::remainder_by_g;
@@ -10,6 +11,11 @@ use second::telegram::{complete, well_formed};
 use second::words::valid;
 
 pub use second::made::{random_telegram, random_telegrams, telegram_of, with_bits, with_word};
+
+/// The kept telegrams that are well-formed and not proper.
+pub fn kept_not_proper() -> Vec<Vec<u8>> {
+    [well_formed_not_proper(), only_the_ring_refuses()].concat()
+}
 
 /// A word outside the table.
 pub fn other_word(random: &mut Random) -> u16 {

@@ -3,15 +3,9 @@
 
 use compare::calls::{read_both, search};
 use compare::telegrams::*;
-use second::appendices::{only_the_ring_refuses, well_formed_not_proper};
 use second::format::{Format, FORMATS};
 use second::random::Random;
 use second::telegram::cut;
-
-/// The kept telegrams that are well-formed and not proper.
-fn kept() -> Vec<Vec<u8>> {
-    [well_formed_not_proper(), only_the_ring_refuses()].concat()
-}
 
 /// A list, and after it a window of a proper telegram, the bit before which is
 /// not the telegram's: the capture, the window's place and its turn.
@@ -29,7 +23,7 @@ fn then_accepted(random: &mut Random, front: &[u8], format: Format) -> (Vec<u8>,
 #[test]
 fn only_a_window_that_is_not_proper() {
     let mut random = Random::new(111);
-    for telegram in kept() {
+    for telegram in kept_not_proper() {
         let format = Format::of_telegram(telegram.len()).unwrap();
         let turn = random.below(telegram.len());
         for flipped in [false, true] {
@@ -49,7 +43,7 @@ fn only_a_window_that_is_not_proper() {
 #[test]
 fn a_window_that_is_not_proper_before_one_that_is() {
     let mut random = Random::new(112);
-    for telegram in kept() {
+    for telegram in kept_not_proper() {
         for format in FORMATS {
             let length = telegram.len() + 121 + random.below(60);
             let front = cut(&telegram, random.below(telegram.len()), length, false);
@@ -65,7 +59,7 @@ fn a_window_that_is_not_proper_before_one_that_is() {
 #[test]
 fn going_round() {
     let mut random = Random::new(113);
-    let telegrams = kept();
+    let telegrams = kept_not_proper();
     for format in FORMATS {
         let telegrams = telegrams
             .iter()

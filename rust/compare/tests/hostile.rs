@@ -5,7 +5,7 @@
 use compare::calls::{check, encode, read_both, search, Tally};
 use compare::telegrams::*;
 use compare::{asked, burst, patterns};
-use second::appendices::{appendix_b, only_the_ring_refuses, well_formed_not_proper};
+use second::appendices::appendix_b;
 use second::bits::all_bits;
 use second::encode_skipping;
 use second::format::{Format, FORMATS};
@@ -46,7 +46,7 @@ impl Inputs {
         Inputs {
             random,
             telegrams,
-            not_proper: [well_formed_not_proper(), only_the_ring_refuses()].concat(),
+            not_proper: kept_not_proper(),
         }
     }
 

@@ -4,7 +4,7 @@
 use compare::calls::{read, read_both, read_well_formed, Tally};
 use compare::telegrams::*;
 use compare::{burst, other_lengths, patterns};
-use second::appendices::{appendix_b, only_the_ring_refuses, well_formed_not_proper};
+use second::appendices::appendix_b;
 use second::bits::bits_of;
 use second::conditions::condition_2;
 use second::format::{Format, FORMATS};
@@ -221,15 +221,10 @@ fn any_bits(tallies: &mut Tallies, random: &mut Random, format: Format) {
     }
 }
 
-/// The kept telegrams that are well-formed and not proper.
-fn kept() -> Vec<Vec<u8>> {
-    [well_formed_not_proper(), only_the_ring_refuses()].concat()
-}
-
-/// Windows of them, both ways up: read refuses with the lowest of 10, 11 and 12,
+/// Windows of telegrams that are well-formed and not proper, both ways up: read refuses with the lowest of 10, 11 and 12,
 /// the other call reads them, and refusal 3 comes first.
 fn not_proper(tallies: &mut Tallies, random: &mut Random) {
-    for telegram in kept() {
+    for telegram in kept_not_proper() {
         let format = Format::of_telegram(telegram.len()).unwrap();
         let (n, m) = (format.telegram_bits(), format.user_bits());
         let number = second::check(&telegram).unwrap_err();
@@ -260,7 +255,7 @@ fn not_proper(tallies: &mut Tallies, random: &mut Random) {
 
 /// Windows of them with changed bits: 5 and 6 come before 10.
 fn not_proper_changed(tallies: &mut Tallies, random: &mut Random) {
-    for telegram in kept() {
+    for telegram in kept_not_proper() {
         let format = Format::of_telegram(telegram.len()).unwrap();
         let (n, r) = (format.telegram_bits(), format.extra_bits());
         let window = cut(&telegram, random.below(n), n + r, false);
@@ -279,7 +274,7 @@ fn not_proper_changed(tallies: &mut Tallies, random: &mut Random) {
 /// put right again: 8 and 9 come before 10. Of most condition 2 fails as well.
 fn not_proper_and_not_well_formed(tallies: &mut Tallies, random: &mut Random) {
     let mut both = 0;
-    for telegram in kept() {
+    for telegram in kept_not_proper() {
         let format = Format::of_telegram(telegram.len()).unwrap();
         let (n, l) = (format.telegram_bits(), format.window_bits());
         for control in [0, 2, 3] {
