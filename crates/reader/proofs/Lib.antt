@@ -1,7 +1,7 @@
--- `Windows` has the laws of windows, `Ends` those of their ends, `AsAsked` a telegram that is as asked, `Steps` the answer by the verdict and row by row, `Accepted` what an accepted
--- window passed, `Turns` the turn of a window, `Laws` what other crates need of reading. `Exact` proves what reading means, by way of
--- `CutReads` (cut from a telegram means accepted) and `ReadsCut` (the other way). `Parts` has what stands in the buffers while a window is
--- read.
+-- `Windows` has the laws of windows, `Ends` those of their ends, `AsAsked` a telegram that is as asked, `Steps` the answer by the verdict
+-- and row by row, `Accepted` what an accepted window passed, `Turns` the turn of a window, `Laws` what other crates need of reading. `Exact`
+-- proves what reading means, by way of `CutReads` (cut from a telegram means accepted) and `ReadsCut` (the other way), `Strictly` how the
+-- two window calls go together. `Parts` has what stands in the buffers while a window is read.
 pub mod Windows
 pub mod Ends
 pub mod AsAsked
