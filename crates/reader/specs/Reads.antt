@@ -1,5 +1,5 @@
 -- What reading a window answers, and what the output holds afterwards (document 01, "Search, reading and place", and
--- "When the bench says no").
+-- "When the bench says no"; document 02, No. 2).
 -- Assumes nothing.
 use Prim.Native.Nat.{ℕ, _-_}
 use mathlib.Core.Bool.{Bool, true, false, not}
@@ -133,6 +133,7 @@ readAs asked format w out = outcomeBy Refused out (readOut format w out) (verdic
 unfoldable pub readBy : Asked → List ℕ → List ℕ → Outcome ReadAnswer
 readBy asked w out = readAs asked (formatOf w) w out
 
+-- by read, and by read_well_formed
 abbrev pub readOf : List ℕ → List ℕ → Outcome ReadAnswer
 readOf w out = readBy Proper w out
 
