@@ -14,16 +14,12 @@ use Rattle.refusals.specs.declared.Refusal.{Refusal}
 use Rattle.refusals.specs.declared.Refusal.the-variants.{OffStep, Repeating, Thinned}
 use Rattle.refusals.specs.Refused.{refusalNumber}
 use Rattle.refusals.specs.Table.{Verdict, refused, accepted, _when_, verdict, accepts, answerBy, risesAbove}
+use Rattle.refusals.proofs.Table.{accepts-only}
 use Rattle.telegrams.specs.Fields.{wellFormed}
 use Rattle.conditions.specs.declared.Failing.{Failing}
 use Rattle.conditions.specs.declared.Failing.the-variants.{First, None}
 use Rattle.conditions.specs.Conditions.{offStepWithin, notRepeating, thinnedWithin, proper}
 use Rattle.conditions.specs.FirstFailing.{conditionTable, firstFailing}
-
--- a verdict that accepts
-verdict-accepts : (v : Verdict Refusal) → T (accepts v) → v ≡ accepted
-verdict-accepts accepted h = refl
-verdict-accepts (refused r) h = absurd h
 
 -- whether all hold, by what fails
 abbrev pub noneFails : Failing → Bool
@@ -71,6 +67,6 @@ module _ (format : Format) (b : List ℕ) where
   proper-tested =
       let formed = wellFormed (numbersOf format) b in
       let holds = offStepWithin format b && (notRepeating format b && thinnedWithin format b) in (
-        λ h. (and-left formed holds h, verdict-accepts (verdict (conditionTable format b)) (subst T (sym all-hold) (and-right formed holds h))),
+        λ h. (and-left formed holds h, accepts-only (verdict (conditionTable format b)) (subst T (sym all-hold) (and-right formed holds h))),
         λ p. and-of formed holds (p .0) (subst T (sym (ap accepts (p .1)) ∙ all-hold) tt),
       )

@@ -1,6 +1,6 @@
 -- What a window that is accepted has passed: every row of the table, whatever output with room is lent. Assumes nothing.
 use Prim.Native.Nat.{ℕ, _≤_}
-use mathlib.Core.Path.{_≡_, refl}
+use mathlib.Core.Path.{_≡_}
 use mathlib.Core.Bool.{true}
 use mathlib.Core.List.{List}
 use mathlib.Core.Logic.{_↔_}
@@ -11,9 +11,8 @@ use lib.ListN.{length, take}
 use Rattle.bits.specs.Bits.{allBits, same}
 use Rattle.formats.specs.declared.format.Format.{Format}
 use Rattle.formats.specs.Numbers.{numbersOf, windowBits}
-use Rattle.refusals.specs.declared.Refusal.{Refusal}
-use Rattle.refusals.specs.Table.{Verdict, accepted, refused, verdict, accepts}
-use Rattle.refusals.proofs.Table.{NoRow, accepted-no-row, no-row-accepted}
+use Rattle.refusals.specs.Table.{accepted, verdict}
+use Rattle.refusals.proofs.Table.{accepts-only, NoRow, accepted-no-row, no-row-accepted}
 use Rattle.cyclic.specs.Check.{divisible}
 use Rattle.telegrams.specs.Telegram.{control}
 use Rattle.telegrams.specs.Fields.{controlOf, allWords}
@@ -69,10 +68,6 @@ with-room asked format w room h = rw (le-leb (numbersOf format .m) room h, le-le
 pub reads-passed : (asked : Asked) (format : Format) (w : List ℕ) → T (readsAs asked format w) ↔ Passed asked format w
 unfolding readsAs
 reads-passed asked format w = (
-  forth (verdict (readTable asked format (numbersOf format .m) w)) refl,
+  λ h. accepted-passed asked format (numbersOf format .m) w (accepts-only (verdict (readTable asked format (numbersOf format .m) w)) h) .1,
   λ p. rw (passed-accepted asked format (numbersOf format .m) w (le-refl (numbersOf format .m)) p) tt,
 )
-  where
-    forth : (v : Verdict Refusal) → verdict (readTable asked format (numbersOf format .m) w) ≡ v → T (accepts v) → Passed asked format w
-    forth accepted e h = accepted-passed asked format (numbersOf format .m) w e .1
-    forth (refused r) e h = absurd h

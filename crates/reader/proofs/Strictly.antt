@@ -11,9 +11,9 @@ use Rattle.formats.specs.declared.format.Format.{Format}
 use Rattle.formats.specs.Numbers.{numbersOf}
 use Rattle.refusals.specs.declared.Refusal.{Refusal}
 use Rattle.refusals.specs.Refused.{refusalNumber}
-use Rattle.refusals.specs.Table.{Verdict, refused, accepted, verdict, answerBy, outcomeBy, Lowest}
+use Rattle.refusals.specs.Table.{Verdict, refused, accepted, verdict, answerBy, outcomeBy, Applies, Lowest}
 use Rattle.refusals.specs.Outcome.{Outcome, outcome}
-use Rattle.refusals.proofs.Table.{verdict-more, lowest-given}
+use Rattle.refusals.proofs.Table.{none-applies, verdict-more, lowest-given}
 use Rattle.conditions.specs.FirstFailing.{conditionTable}
 use Rattle.conditions.proofs.FirstFailing.{conditions-rise}
 use Rattle.reader.specs.declared.Asked.the-variants.{WellFormed, Proper}
@@ -57,17 +57,21 @@ module _ (w out : List ℕ) where
           let answers = sym (ap (λ (x : Outcome ReadAnswer). x .answer) (well-formed-by accepted f)) ∙ e in
           clash cc
 
-  -- the same, or refused with the lowest of the conditions
+  -- no condition fails and both do the same, or it is refused with the lowest that fails
   abbrev SameOrFails : Format → Type 0
   SameOrFails format =
-      (readOf w out ≡ readWellFormedOf w out)
+      (((r : Refusal) → Applies (conditionTable format (found format w)) r → ⊥) × (readOf w out ≡ readWellFormedOf w out))
       ⊎ ((r : Refusal) × (readOf w out ≡ outcome (Refused r) out) × Lowest refusalNumber (conditionTable format (found format w)) r)
 
   by-conditions : form ≡ accepted → SameOrFails (formatOf w)
   by-conditions f = go conditions refl
     where
       go : (v : Verdict Refusal) → conditions ≡ v → SameOrFails (formatOf w)
-      go accepted e = inl (read-by accepted f ∙ ap (outcomeBy Refused out (readOut (formatOf w) w out)) e ∙ sym (well-formed-by accepted f))
+      go accepted e =
+          inl (
+            none-applies (conditionTable (formatOf w) (found (formatOf w) w)) e,
+            read-by accepted f ∙ ap (outcomeBy Refused out (readOut (formatOf w) w out)) e ∙ sym (well-formed-by accepted f),
+          )
       go (refused r) e =
           inr (
             r,

@@ -10,7 +10,7 @@ use Rattle.formats.specs.declared.format.Format.{Format}
 use Rattle.formats.specs.Numbers.{numbersOf, windowBits}
 use Rattle.refusals.specs.declared.Refusal.{Refusal}
 use Rattle.refusals.specs.Refused.{refusalNumber}
-use Rattle.refusals.specs.Table.{Lowest, RefusesBy}
+use Rattle.refusals.specs.Table.{Applies, Lowest, RefusesBy}
 use Rattle.refusals.specs.Outcome.{Outcome, outcome, FrontWritten}
 use Rattle.conditions.specs.FirstFailing.{conditionTable}
 use Rattle.reader.specs.declared.Asked.{Asked}
@@ -53,10 +53,10 @@ pub record ReadsExactly (asked : Asked) (format : Format) (w out : List ℕ) : T
 pub record ReadsStrictly (w out : List ℕ) : Type 0 where
   -- where read_well_formed refuses, read does the same
   pub refusedAlike : (r : Refusal) → readWellFormedOf w out .answer ≡ Refused r → readOf w out ≡ readWellFormedOf w out
-  -- where it accepts, read does the same, or refuses with the lowest of 10, 11 and 12 whose condition the telegram in the window fails, and
-  -- then keeps the output
+  -- where it accepts, read does the same if the telegram in the window fails no condition, and otherwise refuses with the lowest of 10, 11
+  -- and 12 whose condition it fails, and keeps the output
   pub acceptedOrFails : (reading : Reading) → readWellFormedOf w out .answer ≡ Read reading →
       let F = numbersOf (reading .format) in
-      (readOf w out ≡ readWellFormedOf w out)
-      ⊎ ((r : Refusal) × (readOf w out ≡ outcome (Refused r) out)
-      × Lowest refusalNumber (conditionTable (reading .format) (telegramIn F (turnIn F w) w)) r)
+      let rows = conditionTable (reading .format) (telegramIn F (turnIn F w) w) in
+      (((r : Refusal) → Applies rows r → ⊥) × (readOf w out ≡ readWellFormedOf w out))
+      ⊎ ((r : Refusal) × (readOf w out ≡ outcome (Refused r) out) × Lowest refusalNumber rows r)

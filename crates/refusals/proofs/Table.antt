@@ -10,7 +10,7 @@ use lib.Dec.{T, ltb, ltb→lt}
 use Rattle.bits.proofs.And.{and-left, and-right}
 use Rattle.bits.proofs.Tests.{clash}
 use Rattle.refusals.specs.Outcome.{Outcome}
-use Rattle.refusals.specs.Table.{Row, _when_, Verdict, refused, accepted, verdict, answerBy, outcomeBy, Applies, FirstApplies, Lowest, RefusesBy, risesAbove}
+use Rattle.refusals.specs.Table.{Row, _when_, Verdict, refused, accepted, verdict, accepts, answerBy, outcomeBy, Applies, FirstApplies, Lowest, RefusesBy, risesAbove}
 
 module _ {R : Type 0} where
   -- ---- a verdict is one of the two
@@ -28,6 +28,10 @@ module _ {R : Type 0} where
 
   refused-one : (q r : R) → refused q ≡ refused r → q ≡ r
   refused-one q r e = ap (refusalOr q) e
+
+  pub accepts-only : (v : Verdict R) → T (accepts v) → v ≡ accepted
+  accepts-only accepted h = refl
+  accepts-only (refused r) h = absurd h
 
   -- ---- the walk through a table: past a test that holds, and refused at one that fails
 
