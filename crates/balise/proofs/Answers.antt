@@ -23,6 +23,9 @@ use Rattle.encoder.proofs.Accepted.{encode-accepted}
 use Rattle.checker.specs.declared.Checked.{Checked}
 use Rattle.checker.specs.declared.Checked.the-variants.{Proper, Refused as NotProper}
 use Rattle.checker.specs.Checking.{checkedValues, checkOf}
+use Rattle.maker.specs.declared.Made.{Made}
+use Rattle.maker.specs.declared.Made.the-variants.{Telegram, Refused as NotMade}
+use Rattle.maker.specs.Making.{madeValues, makeOf}
 use Rattle.reader.specs.declared.Asked.{Asked}
 use Rattle.reader.specs.declared.Asked.the-variants.{Proper}
 use Rattle.reader.specs.declared.Reading.{Reading}
@@ -34,7 +37,7 @@ use Rattle.captures.specs.declared.Capture.{Capture}
 use Rattle.captures.specs.declared.Capture.the-variants.{Found, Refused as NotFound}
 use Rattle.captures.specs.Captures.{captureValues, windowAt, searchOf}
 use Rattle.captures.proofs.Exact.{searches}
-use Rattle.balise.specs.AsNumber.{packed, encodedSizes, checkedSizes, readSizes, searchSizes, Fits, ReadBack}
+use Rattle.balise.specs.AsNumber.{packed, encodedSizes, checkedSizes, madeSizes, readSizes, searchSizes, Fits, ReadBack}
 use Rattle.balise.proofs.Fields.{fits-back}
 
 -- ---- single values
@@ -82,19 +85,32 @@ module _ (b : List ℕ) where
   pub check-back : ReadBack checkedSizes (checkedValues (checkOf b))
   check-back = fits-back checkedSizes (checkedValues (checkOf b)) check-fits
 
+-- ---- make
+
+module _ (u : List ℕ) (B esb : ℕ) (out : List ℕ) where
+  pub make-fits : Fits madeSizes (madeValues (makeOf u B esb out .answer))
+  make-fits = go (makeOf u B esb out .answer)
+    where
+      go : (a : Made) → Fits madeSizes (madeValues a)
+      go (Telegram format) = search (arith, format-fits format)
+      go (NotMade refusal) = search (arith, number-fits refusal)
+
+  pub make-back : ReadBack madeSizes (madeValues (makeOf u B esb out .answer))
+  make-back = fits-back madeSizes (madeValues (makeOf u B esb out .answer)) make-fits
+
 -- ---- read
 
 module _ (asked : Asked) (w out : List ℕ) where
-  reading-fits : (reading : Reading) → readBy asked w out .answer ≡ Read reading → Fits readSizes (0 ∷ readingValues reading)
-  reading-fits reading e =
+  reading-fits : (reading : Reading) → readBy asked w out .answer ≡ Read reading → (p : ℕ) → p < 65536 → Fits readSizes (0 ∷ readingValues p reading)
+  reading-fits reading e p below =
       let h = read-accepted asked w out reading e in
-      search (arith, format-fits (reading .format), flipped-fits (reading .flipped), telegram-between (reading .format), h .scrambling, h .turn)
+      search (arith, format-fits (reading .format), flipped-fits (reading .flipped), telegram-between (reading .format), h .scrambling, h .shaping, h .turn)
 
   pub read-fits : Fits readSizes (readValues (readBy asked w out .answer))
   read-fits = go (readBy asked w out .answer) refl
     where
       go : (a : ReadAnswer) → readBy asked w out .answer ≡ a → Fits readSizes (readValues a)
-      go (Read reading) e = reading-fits reading e
+      go (Read reading) e = reading-fits reading e 0 (omega arith)
       go (NotRead refusal) e = search (arith, number-fits refusal)
 
   -- what a call answered, and what it left in the output
@@ -122,9 +138,8 @@ module _ (s : List ℕ) where
       let m = numbersOf (reading .format) .m in
       let out : List ℕ = replicate m 0 in
       let room : m ≤ length out = omega (arith, length-replicate {A = ℕ} m 0) in
-      let fits = reading-fits Proper (windowAt (reading .format) s p) out reading (first .here .reads out room) in
       let below : p < 65536 = omega (arith, searched .0, first .here .fits) in
-      search (fits, below)
+      reading-fits Proper (windowAt (reading .format) s p) out reading (first .here .reads out room) p below
 
   pub search-fits : Fits searchSizes (captureValues (searchOf s))
   search-fits = go (searchOf s) refl

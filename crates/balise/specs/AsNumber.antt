@@ -21,13 +21,17 @@ encodedSizes = 256 ∷ 2 ∷ 4096 ∷ 1024 ∷ 8388608 ∷ []
 abbrev pub checkedSizes : List ℕ
 checkedSizes = 256 ∷ 2 ∷ []
 
--- bits 0 to 7 the number, 8 the format, 9 whether it was flipped, 10 to 21 B, 22 to 31 the turn
-abbrev pub readSizes : List ℕ
-readSizes = 256 ∷ 2 ∷ 2 ∷ 4096 ∷ 1024 ∷ []
+-- as check's
+abbrev pub madeSizes : List ℕ
+madeSizes = checkedSizes
 
--- those of a reading, and bits 32 to 47 the place
+-- bits 0 to 7 the number, 8 the format, 9 whether it was flipped, 10 to 21 B, 22 to 31 the turn, 32 to 47 the place, 48 to 57 esb
+abbrev pub readSizes : List ℕ
+readSizes = 256 ∷ 2 ∷ 2 ∷ 4096 ∷ 1024 ∷ 65536 ∷ 1024 ∷ []
+
+-- as those of a reading
 abbrev pub searchSizes : List ℕ
-searchSizes = readSizes ++ (65536 ∷ [])
+searchSizes = readSizes
 
 -- ---- reading the fields back
 

@@ -4,14 +4,16 @@ ghost use mathlib.Core.List.{[], _∷_};
 ghost use Rattle.refusals.specs.AnswerValues.{formatNumber, flippedNumber};
 ghost use Rattle.encoder.specs.Encoding.{encodedValues};
 ghost use Rattle.checker.specs.Checking.{checkedValues};
+ghost use Rattle.maker.specs.Making.{madeValues};
 ghost use Rattle.reader.specs.Reads.{readValues};
 ghost use Rattle.captures.specs.declared.Capture.the-variants.{Found};
 ghost use Rattle.captures.specs.Captures.{captureValues};
-ghost use Rattle.balise.specs.AsNumber.{packed, encodedSizes, checkedSizes, readSizes, searchSizes, Fits};
+ghost use Rattle.balise.specs.AsNumber.{packed, encodedSizes, checkedSizes, madeSizes, readSizes, searchSizes, Fits};
 use captures::Capture;
 use checker::Checked;
 use encoder::Encoded;
 use formats::format::Format;
+use maker::Made;
 use reader::ReadAnswer;
 use reader::Reading;
 
@@ -49,8 +51,9 @@ fn found_fields(reading: Reading, place: usize) -> u64
     let format = reading.format;
     let flipped = reading.flipped;
     let b = reading.scrambling;
+    let esb = reading.shaping;
     let turn = reading.turn;
-    let above = turn as u64 + 1024 * (place as u64);
+    let above = turn as u64 + 1024 * (place as u64 + 65536 * (esb as u64));
     let scrambling = b as u64 + 4096 * above;
     256 * (format_number(format) as u64 + 2 * (flipped_number(flipped) as u64 + 2 * scrambling))
 }
@@ -79,6 +82,15 @@ pub fn checked(answer: Checked) -> u64
     match answer {
         Checked::Proper(format) => 256 * (format_number(format) as u64),
         Checked::Refused(refusal) => refusals::number(refusal) as u64,
+    }
+}
+
+pub fn made(answer: Made) -> u64
+    ensures { λ r. ⌜ r ≡ packed madeSizes (madeValues answer) ⌝ }
+{
+    match answer {
+        Made::Telegram(format) => 256 * (format_number(format) as u64),
+        Made::Refused(refusal) => refusals::number(refusal) as u64,
     }
 }
 

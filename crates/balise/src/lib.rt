@@ -3,9 +3,10 @@
 ghost use mathlib.Core.Path.{_≡_};
 ghost use Rattle.encoder.specs.Encoding.{encodedValues, encodeOf};
 ghost use Rattle.checker.specs.Checking.{checkedValues, checkOf};
+ghost use Rattle.maker.specs.Making.{madeValues, makeOf};
 ghost use Rattle.reader.specs.Reads.{readValues, readOf, readWellFormedOf};
 ghost use Rattle.captures.specs.Captures.{captureValues, searchOf};
-ghost use Rattle.balise.specs.AsNumber.{packed, encodedSizes, checkedSizes, readSizes, searchSizes};
+ghost use Rattle.balise.specs.AsNumber.{packed, encodedSizes, checkedSizes, madeSizes, readSizes, searchSizes};
 
 mod as_number;
 
@@ -26,6 +27,16 @@ pub extern "C" fn balise_check(telegram: &[u8]) -> u64
 {
     let answer = checker::check(telegram);
     as_number::checked(answer)
+}
+
+// Makes the telegram of a block, B and esb, without a search: over the front of output. A refusal keeps every byte of output.
+#[no_mangle]
+pub extern "C" fn balise_make(block: &[u8], b: u64, esb: u64, output: &mut [u8]) -> u64
+    ensures answers { λ r. ⌜ r ≡ packed madeSizes (madeValues (makeOf (now (block .entry)) b esb (now (output .entry)) .answer)) ⌝ }
+    ensures writes { λ _. ⌜ now (output .exit) ≡ makeOf (now (block .entry)) b esb (now (output .entry)) .output ⌝ }
+{
+    let answer = maker::make(block, b, esb, output);
+    as_number::made(answer)
 }
 
 // Reads a window of a proper telegram: its user bits over the front of output. A refusal keeps every byte of output.

@@ -1,6 +1,6 @@
 -- Searching a capture finds the first place at which read accepts, long before short at one place (document 01, "Search, reading and
 -- place"), and refuses as its table says ("When the bench says no"). Assumes nothing.
-use mathlib.Core.Path.{_≡_, refl, sym, ap, subst, subst⁻¹, _∙_}
+use mathlib.Core.Path.{_≡_, refl, sym, ap, ap₂, subst, subst⁻¹, _∙_}
 use mathlib.Core.Bool.{Bool, true, false, true≢false, not}
 use mathlib.Core.List.{List, [], _∷_, _++_}
 use mathlib.Core.Logic.{inl, inr}
@@ -25,7 +25,6 @@ use Rattle.refusals.specs.Outcome.{Outcome, outcome}
 use Rattle.refusals.proofs.Table.{Decides, NoRow, accepted-no-row, passed, failed, all-passed, given, answer-by, answer-said, outcome-kept, refuses-by}
 use Rattle.reader.specs.declared.Asked.the-variants.{Proper}
 use Rattle.reader.specs.declared.Reading.{Reading}
-use Rattle.reader.specs.declared.ReadAnswer.{ReadAnswer}
 use Rattle.reader.specs.declared.ReadAnswer.the-variants.{Read}
 use Rattle.reader.specs.Reads.{readingIn, userBitsIn, readOf}
 use Rattle.reader.proofs.Laws.{reading-format, reads-as}
@@ -245,18 +244,20 @@ module _ (s out : List ℕ) where
   unfolding acceptsAs
   stretch-read p format h room = reads-as Proper format (windowAt format s p) out h room
 
-  read-writes : (p : ℕ) (reading : Reading) → searchReadOf s out .answer ≡ Found p reading
-      → searchReadOf s out .output ≡ readOf (stretchOf s) out .output
-  read-writes p reading e =
+  stretch-reads : (p : ℕ) (reading : Reading) → searchReadOf s out .answer ≡ Found p reading
+      → (searchOf s ≡ Found p reading) × (readOf (stretchOf s) out ≡ outcome (Read reading) (searchReadOf s out .output))
+  stretch-reads p reading e =
       let room = with-room (accepted-no-row (searchReadTable (length out) s) (sym read-said ∙ ap said e)) in
       let found-s : searchOf s ≡ Found p reading = sym (same-answer s out room) ∙ e in
       let h = found-tells s p reading found-s in
       let format = formatAt s p in
       let stretch = stretch-found s p reading found-s ∙ ap (λ (f : Format). windowAt f s p) (found-format s p reading h) in
-      let there = by-place s out (h .within) (is-true (allBits s) (h .bits)) room ∙ ap (outFound s out) (h .first) ∙ out-as s p out format refl in
-      ap (λ (x : Outcome Capture). x .output) there
-      ∙ sym (ap (λ (w : List ℕ). readOf w out .output) stretch
-      ∙ ap (λ (x : Outcome ReadAnswer). x .output) (stretch-read p format (h .accepts) (omega (arith, block-between format))))
+      let there = by-place s out (h .within) (is-true (allBits s) (h .bits)) room ∙ ap (outFound s out) (h .first) ∙ out-as s p out format refl in (
+        found-s,
+        ap (λ (w : List ℕ). readOf w out) stretch
+            ∙ stretch-read p format (h .accepts) (omega (arith, block-between format))
+            ∙ ap₂ (λ (r : Reading) (o : List ℕ). outcome (Read r) o) (sym (h .reads)) (sym (ap (λ (x : Outcome Capture). x .output) there)),
+      )
 
   pub search-reads : SearchReads s out
-  search-reads = record { refuses = read-refuses; answers = same-answer s out; writes = read-writes; keeps = read-keeps }
+  search-reads = record { refuses = read-refuses; answers = same-answer s out; reads = stretch-reads; keeps = read-keeps }

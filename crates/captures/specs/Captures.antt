@@ -21,9 +21,9 @@ use Rattle.reader.specs.Reads.{readingValues, readingIn, userBitsIn, readsAs}
 use Rattle.captures.specs.declared.Capture.{Capture}
 use Rattle.captures.specs.declared.Capture.the-variants.{Found, Refused}
 
--- the values of each answer: the number, 0 where nothing is refused, those of the reading, and the place
+-- the values of each answer: the number, 0 where nothing is refused, and those of the reading, at its place
 abbrev pub captureValues : Capture → List ℕ
-captureValues (Found p reading) = 0 ∷ readingValues reading ++ (p ∷ [])
+captureValues (Found p reading) = 0 ∷ readingValues p reading
 captureValues (Refused refusal) = refusalNumber refusal ∷ []
 
 -- a capture has at most this many bits

@@ -15,6 +15,7 @@ use Rattle.refusals.specs.declared.Refusal.{Refusal}
 use Rattle.refusals.specs.declared.Refusal.the-variants.{NoPlace}
 use Rattle.refusals.specs.Refused.{refusalNumber}
 use Rattle.refusals.specs.Table.{RefusesBy}
+use Rattle.refusals.specs.Outcome.{outcome}
 use Rattle.reader.specs.declared.Reading.{Reading}
 use Rattle.reader.specs.declared.ReadAnswer.the-variants.{Read}
 use Rattle.reader.specs.Reads.{readOf}
@@ -62,7 +63,7 @@ pub record SearchReads (s out : List ℕ) : Type 0 where
   pub refuses : RefusesBy refusalNumber Refused (searchReadTable (length out) s) (searchReadOf s out .answer)
   -- lent room, it answers as the search does
   pub answers : long .m ≤ length out → searchReadOf s out .answer ≡ searchOf s
-  -- and writes what read writes of the stretch
-  pub writes : (p : ℕ) (reading : Reading) → searchReadOf s out .answer ≡ Found p reading
-      → searchReadOf s out .output ≡ readOf (stretchOf s) out .output
+  -- where it answers with a place, so does the search, and read gives of the stretch the reading there and the output as it was left
+  pub reads : (p : ℕ) (reading : Reading) → searchReadOf s out .answer ≡ Found p reading
+      → (searchOf s ≡ Found p reading) × (readOf (stretchOf s) out ≡ outcome (Read reading) (searchReadOf s out .output))
   pub keeps : (r : Refusal) → searchReadOf s out .answer ≡ Refused r → searchReadOf s out .output ≡ out

@@ -1,6 +1,7 @@
 -- Demand 1 holds, by what each call's crate proves of it. Assumes nothing.
 use Rattle.encoder.proofs.Exact.{encode-answers}
 use Rattle.checker.proofs.Exact.{checks}
+use Rattle.maker.proofs.Exact.{make-answers}
 use Rattle.reader.specs.declared.Asked.the-variants.{WellFormed, Proper}
 use Rattle.reader.proofs.Exact.{read-answers}
 use Rattle.captures.proofs.Exact.{searches}
@@ -11,6 +12,7 @@ demand1 =
     record {
       encode = encode-answers;
       check = λ b. checks b .refuses;
+      make = make-answers;
       read = read-answers Proper;
       readWellFormed = read-answers WellFormed;
       search = λ s. searches s .refuses;

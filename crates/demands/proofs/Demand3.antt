@@ -34,7 +34,7 @@ use Rattle.reader.proofs.Steps.{read-as, room-refused, ends-refused, turn-refus
 use Rattle.reader.proofs.CutReads.{formed-code, cut-once}
 use Rattle.reader.proofs.Exact.{cut-read}
 use Rattle.demands.specs.Demand3.{SomeProper, Wrote, refusedWith, Demand3}
-use Rattle.demands.proofs.Wrote.{some-first, wrote-proper, wrote-formed, wrote-scrambling, wrote-userBits}
+use Rattle.demands.proofs.Wrote.{some-first, wrote-proper, wrote-formed, wrote-scrambling, wrote-shaping, wrote-userBits}
 use Rattle.demands.proofs.ShortFromLong.{changed-ends}
 use Rattle.demands.proofs.LongFromShort.{rounds-agree, rounds-divisible, rounds-no-turn}
 
@@ -49,12 +49,13 @@ encodes format u out s room =
 
 -- an undamaged window is cut from a proper telegram
 cut-from : (format : Format) (u : List ℕ) (B esb : ℕ) (b : List ℕ) → Wrote format u B esb b → (t : ℕ) → t < numbersOf format .n → (flipped : Bool)
-    → CutFrom Proper format (cut (windowBits (numbersOf format)) t flipped b) B t flipped u
+    → CutFrom Proper format (cut (windowBits (numbersOf format)) t flipped b) B esb t flipped u
 cut-from format u B esb b wrote t below flipped =
     record {
       telegram = b;
       as-asked = wrote-proper format u B esb b wrote;
       scrambling = wrote-scrambling format u B esb b wrote;
+      shaping = wrote-shaping format u B esb b wrote;
       userBits = wrote-userBits format u B esb b wrote;
       turn = below;
       window = refl;
@@ -63,17 +64,17 @@ cut-from format u B esb b wrote t below flipped =
 -- so it reads back
 reads-back : (format : Format) (u : List ℕ) (B esb : ℕ) (b : List ℕ) → Wrote format u B esb b
     → (t : ℕ) → t < numbersOf format .n → (flipped : Bool) (out : List ℕ) → numbersOf format .m ≤ length out
-    → readOf (cut (windowBits (numbersOf format)) t flipped b) out ≡ gaveBlock format B t flipped u out
+    → readOf (cut (windowBits (numbersOf format)) t flipped b) out ≡ gaveBlock format B esb t flipped u out
 reads-back format u B esb b wrote t below flipped out room =
-    cut-read Proper format (cut (windowBits (numbersOf format)) t flipped b) out room B t flipped u (cut-from format u B esb b wrote t below flipped)
+    cut-read Proper format (cut (windowBits (numbersOf format)) t flipped b) out room B esb t flipped u (cut-from format u B esb b wrote t below flipped)
 
 -- undamaged windows that are the same bits come from one block, turn and orientation
 one-block : (format : Format) (u v : List ℕ) (B esb C e : ℕ) (b c : List ℕ) → Wrote format u B esb b → Wrote format v C e c
     → (s t : ℕ) → s < numbersOf format .n → t < numbersOf format .n → (f g : Bool)
     → cut (windowBits (numbersOf format)) s f b ≡ cut (windowBits (numbersOf format)) t g c → (u ≡ v) × (s ≡ t) × (f ≡ g)
 one-block format u v B esb C e b c wrote other s t p q f g same =
-    let second = subst⁻¹ (λ (w : List ℕ). CutFrom Proper format w C t g v) same (cut-from format v C e c other t q g) in
-    let (blocks, pairs, turns, ways) = cut-once Proper format _ B C s t f g u v (cut-from format u B esb b wrote s p f) second in
+    let second = subst⁻¹ (λ (w : List ℕ). CutFrom Proper format w C e t g v) same (cut-from format v C e c other t q g) in
+    let (blocks, scrambling, shaping, turns, ways) = cut-once Proper format _ B C esb e s t f g u v (cut-from format u B esb b wrote s p f) second in
     (blocks, turns, ways)
 
 -- ---- a window of 462 bits of a long telegram

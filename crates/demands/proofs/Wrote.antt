@@ -1,4 +1,4 @@
--- A telegram that encode wrote: that of the first proper pair, so it is proper, has the scrambling bits B and carries the user bits.
+-- A telegram that encode wrote: that of the first proper pair, so it is proper, has that pair and carries the user bits.
 -- Assumes nothing.
 use mathlib.Core.Path.{_≡_, sym, ap, subst, _∙_}
 use mathlib.Core.List.{List}
@@ -9,8 +9,8 @@ use Rattle.formats.specs.Numbers.{numbersOf}
 use Rattle.formats.proofs.Sizes.{sizesOf}
 use Rattle.cyclic.proofs.Formats.{factsOf}
 use Rattle.telegrams.specs.Telegram.{telegramOf}
-use Rattle.telegrams.specs.Fields.{scramblingOf, userBitsOf, wellFormed}
-use Rattle.telegrams.proofs.Made.{scrambling-made, userBits-made}
+use Rattle.telegrams.specs.Fields.{scramblingOf, shapingOf, userBitsOf, wellFormed}
+use Rattle.telegrams.proofs.Made.{scrambling-made, shaping-made, userBits-made}
 use Rattle.conditions.specs.Conditions.{proper}
 use Rattle.conditions.proofs.Proper.{proper-parts}
 use Rattle.encoder.specs.FirstPair.{FirstProper}
@@ -45,6 +45,11 @@ module _ (format : Format) (u : List ℕ) (B esb : ℕ) (b : List ℕ) (w : Wrot
   pub wrote-scrambling : scramblingOf (numbersOf format) b ≡ B
   wrote-scrambling =
       ap (scramblingOf (numbersOf format)) wrote-made ∙ scrambling-made (numbersOf format) (factsOf format) (sizesOf format) u B esb (wrote-first .scrambling)
+
+  -- and the extra shaping bits esb
+  pub wrote-shaping : shapingOf (numbersOf format) b ≡ esb
+  wrote-shaping =
+      ap (shapingOf (numbersOf format)) wrote-made ∙ shaping-made (numbersOf format) (factsOf format) (sizesOf format) u B esb (wrote-first .shaping)
 
   -- and carries u
   pub wrote-userBits : userBitsOf (numbersOf format) b ≡ u

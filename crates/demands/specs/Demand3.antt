@@ -52,10 +52,11 @@ pub record Demand3 : Type 0 where
   -- lent room, encode answers with the first such pair, B and esb, and writes that pair's telegram
   pub encodes : (format : Format) (u out : List ℕ) → SomeProper format u → numbersOf format .n ≤ length out
       → (B : ℕ) × (esb : ℕ) × FirstProper format u B esb × (encodeOf u out ≡ wrotePair format u out B esb)
-  -- L = n + r, undamaged, room for m: read accepts, and gives the telegram's format, that B, turn t, upright or flipped as it was cut, and u
+  -- L = n + r, undamaged, room for m: read accepts, and gives the telegram's format, that B, turn t, upright or flipped as it was cut, and u;
+  -- and that esb (document 02, No. 11)
   pub readsBack : (format : Format) (u : List ℕ) (B esb : ℕ) (b : List ℕ) → Wrote format u B esb b
       → (t : ℕ) → t < numbersOf format .n → (flipped : Bool) (out : List ℕ) → numbersOf format .m ≤ length out
-      → readOf (cut (windowBits (numbersOf format)) t flipped b) out ≡ gaveBlock format B t flipped u out
+      → readOf (cut (windowBits (numbersOf format)) t flipped b) out ≡ gaveBlock format B esb t flipped u out
   -- if undamaged windows of L = n + r, cut for blocks u and v of one format, are the same bits, then u = v, their turns are equal, and
   -- both are upright or both flipped
   pub oneBlock : (format : Format) (u v : List ℕ) (B esb C e : ℕ) (b c : List ℕ) → Wrote format u B esb b → Wrote format v C e c

@@ -23,7 +23,7 @@ use Rattle.cyclic.specs.Check.{gPadded, turned, turnOf, divisible}
 use Rattle.cyclic.proofs.Laws.{Facts, zeros, turned-back, turned-reads, flip-fg, turnOf-turn}
 use Rattle.cyclic.proofs.Formats.{factsOf}
 use Rattle.telegrams.specs.Telegram.{control}
-use Rattle.telegrams.specs.Fields.{controlOf, scramblingOf, allWords, userBitsOf, wellFormed}
+use Rattle.telegrams.specs.Fields.{controlOf, scramblingOf, shapingOf, allWords, userBitsOf, wellFormed}
 use Rattle.telegrams.proofs.Checked.{checked-remainder}
 use Rattle.telegrams.proofs.WellFormed.{parts}
 use Rattle.reader.specs.declared.Asked.{Asked}
@@ -111,15 +111,15 @@ module _ (format : Format) (x : List ℕ) (t : ℕ) (bits : T (allBits x)) (size
 
 -- ---- the window cut from a telegram
 
--- the window w is accepted as the format's, and tells B, turn and way up, and the user bits u
-pub record Tells (asked : Asked) (format : Format) (w : List ℕ) (B t : ℕ) (flipped : Bool) (u : List ℕ) : Type 0 where
+-- the window w is accepted as the format's, and tells B, esb, turn and way up, and the user bits u
+pub record Tells (asked : Asked) (format : Format) (w : List ℕ) (B esb t : ℕ) (flipped : Bool) (u : List ℕ) : Type 0 where
   pub accepted : T (readsAs asked format w)
-  pub reading : readingIn format w ≡ record { format = format; scrambling = B; turn = t; flipped = flipped }
+  pub reading : readingIn format w ≡ record { format = format; scrambling = B; shaping = esb; turn = t; flipped = flipped }
   pub userBits : userBitsIn format w ≡ u
 
 module _ (asked : Asked) (format : Format) (b : List ℕ) (t : ℕ) (flipped : Bool) (is : T (isAsked asked format b)) (below : t < numbersOf format .n) where
-  ring-tells : Tells asked format (around (windowBits (numbersOf format)) t (oriented flipped b)) (scramblingOf (numbersOf format) b) t flipped
-      (userBitsOf (numbersOf format) b)
+  ring-tells : let F = numbersOf format in
+      Tells asked format (around (windowBits F) t (oriented flipped b)) (scramblingOf F b) (shapingOf F b) t flipped (userBitsOf F b)
   unfolding readingIn readingOf userBitsIn turnIn telegramIn
   ring-tells =
       let F = numbersOf format in
@@ -153,23 +153,24 @@ module _ (asked : Asked) (format : Format) (b : List ℕ) (t : ℕ) (flipped : B
       }
 
 module _ (asked : Asked) (format : Format) (w : List ℕ) where
-  pub cut-tells : (B t : ℕ) (flipped : Bool) (u : List ℕ) → CutFrom asked format w B t flipped u → Tells asked format w B t flipped u
-  cut-tells B t flipped u c =
+  pub cut-tells : (B esb t : ℕ) (flipped : Bool) (u : List ℕ) → CutFrom asked format w B esb t flipped u → Tells asked format w B esb t flipped u
+  cut-tells B esb t flipped u c =
       let F = numbersOf format in
       let b = c .telegram in
       let some : 0 < length b = omega (arith, parts F b (asked-tested asked format b .0 (c .as-asked) .0) .size, sizesOf format .n-is) in
-      rw (c .window ∙ cut-oriented (windowBits F) t flipped b some, ← c .scrambling, ← c .userBits)
+      rw (c .window ∙ cut-oriented (windowBits F) t flipped b some, ← c .scrambling, ← c .shaping, ← c .userBits)
       (ring-tells asked format b t flipped (c .as-asked) (c .turn))
 
-  -- so one window is cut from telegrams with one B and one block only, at one turn and one way up
-  pub cut-once : (B C s t : ℕ) (f g : Bool) (u v : List ℕ) → CutFrom asked format w B s f u → CutFrom asked format w C t g v
-      → (u ≡ v) × (B ≡ C) × (s ≡ t) × (f ≡ g)
-  cut-once B C s t f g u v c d =
-      let one = cut-tells B s f u c in
-      let other = cut-tells C t g v d in
+  -- so one window is cut from telegrams with one pair and one block only, at one turn and one way up
+  pub cut-once : (B C d e s t : ℕ) (f g : Bool) (u v : List ℕ) → CutFrom asked format w B d s f u → CutFrom asked format w C e t g v
+      → (u ≡ v) × (B ≡ C) × (d ≡ e) × (s ≡ t) × (f ≡ g)
+  cut-once B C d e s t f g u v c c′ =
+      let one = cut-tells B d s f u c in
+      let other = cut-tells C e t g v c′ in
       let readings = sym (one .reading) ∙ other .reading in (
         sym (one .userBits) ∙ other .userBits,
         ap (λ (r : Reading). r .scrambling) readings,
+        ap (λ (r : Reading). r .shaping) readings,
         ap (λ (r : Reading). r .turn) readings,
         ap (λ (r : Reading). r .flipped) readings,
       )

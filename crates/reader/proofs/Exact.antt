@@ -4,9 +4,7 @@ use mathlib.Core.Path.{_≡_, refl, sym, ap, ap₂, _∙_}
 use mathlib.Core.Bool.{Bool}
 use mathlib.Core.List.{List, _++_}
 use Prim.Native.Nat.{ℕ, _≤_}
-use native.Mathlib.Omega.{arith}
-use lib.ListN.{length, take, drop, length-append}
-use lib.Seq.{take-at}
+use lib.ListN.{length, drop}
 use Rattle.bits.proofs.Tests.{clash}
 use Rattle.formats.specs.declared.format.Format.{Format}
 use Rattle.formats.specs.Numbers.{numbersOf, windowBits}
@@ -16,7 +14,7 @@ use Rattle.refusals.specs.Refused.{refusalNumber}
 use Rattle.refusals.specs.Table.{Verdict, refused, accepted, verdict}
 use Rattle.refusals.specs.Outcome.{Outcome, outcome, FrontWritten}
 use Rattle.refusals.proofs.Table.{answer-by, answer-said, refuses-by}
-use Rattle.refusals.proofs.Fronts.{front-written}
+use Rattle.refusals.proofs.Fronts.{front-written, fronts-same}
 use Rattle.telegrams.proofs.Made.{length-userBits}
 use Rattle.reader.specs.declared.Asked.{Asked}
 use Rattle.reader.specs.declared.Reading.{Reading}
@@ -51,33 +49,29 @@ verdict-said asked w out =
 
 -- ---- accepted where it is cut from a telegram
 
--- lists that are the same with the same list behind them
-fronts-same : (u v d : List ℕ) → u ++ d ≡ v ++ d → u ≡ v
-fronts-same u v d e =
-    let sizes : length u ≡ length v = omega (arith, length-append u d, length-append v d, ap length e) in
-    sym (take-at u d (length u) refl) ∙ ap (take (length u)) e ∙ take-at v d (length u) (sym sizes)
-
 module _ (asked : Asked) (format : Format) (w out : List ℕ) where
   -- cut means accepted
-  pub cut-read : numbersOf format .m ≤ length out → (B t : ℕ) (flipped : Bool) (u : List ℕ) → CutFrom asked format w B t flipped u
-      → readBy asked w out ≡ gaveBlock format B t flipped u out
-  cut-read room B t flipped u c =
-      let k = cut-tells asked format w B t flipped u c in
+  pub cut-read : numbersOf format .m ≤ length out → (B esb t : ℕ) (flipped : Bool) (u : List ℕ) → CutFrom asked format w B esb t flipped u
+      → readBy asked w out ≡ gaveBlock format B esb t flipped u out
+  cut-read room B esb t flipped u c =
+      let k = cut-tells asked format w B esb t flipped u c in
       reads-as asked format w out (k .accepted) room
       ∙ ap₂ (λ (x : Reading) (l : List ℕ). outcome (Read x) (l ++ drop (numbersOf format .m) out)) (k .reading) (k .userBits)
 
   module _ (size : length w ≡ windowBits (numbersOf format)) where
     -- accepted means cut
     read-cut : (reading : Reading) (o : List ℕ) → readBy asked w out ≡ outcome (Read reading) o
-        → CutFrom asked format w (reading .scrambling) (reading .turn) (reading .flipped) (userBitsIn format w)
+        → CutFrom asked format w (reading .scrambling) (reading .shaping) (reading .turn) (reading .flipped) (userBitsIn format w)
         × (o ≡ userBitsIn format w ++ drop (numbersOf format .m) out)
     read-cut reading o e =
         let (h, room, reads, writes) = answered-read asked format w out reading o (sym (read-as asked format w out size) ∙ e) in
         (rw reads (reads-cut asked format w h), writes)
 
-    read-gave : (B t : ℕ) (flipped : Bool) (u : List ℕ) → readBy asked w out ≡ gaveBlock format B t flipped u out → CutFrom asked format w B t flipped u
-    read-gave B t flipped u e =
-        let (cut, writes) = read-cut (record { format = format; scrambling = B; turn = t; flipped = flipped }) (gaveBlock format B t flipped u out .output) e in
+    read-gave : (B esb t : ℕ) (flipped : Bool) (u : List ℕ) → readBy asked w out ≡ gaveBlock format B esb t flipped u out
+        → CutFrom asked format w B esb t flipped u
+    read-gave B esb t flipped u e =
+        let told : Reading = record { format = format; scrambling = B; shaping = esb; turn = t; flipped = flipped } in
+        let (cut, writes) = read-cut told (gaveBlock format B esb t flipped u out .output) e in
         rw (fronts-same u (userBitsIn format w) (drop (numbersOf format .m) out) writes) cut
 
 -- ---- what is written
@@ -110,12 +104,19 @@ pub reads-exactly : (asked : Asked) (format : Format) (w out : List ℕ) → Len
 reads-exactly asked format w out lent =
     record {
       accepts = (
-        λ r. (r .0 .scrambling, r .0 .turn, r .0 .flipped, userBitsIn format w, read-cut asked format w out (lent .size) (r .0) (r .1) (r .2) .0),
+        λ r. (
+          r .0 .scrambling,
+          r .0 .shaping,
+          r .0 .turn,
+          r .0 .flipped,
+          userBitsIn format w,
+          read-cut asked format w out (lent .size) (r .0) (r .1) (r .2) .0,
+        ),
         λ c. (
-          record { format = format; scrambling = c .0; turn = c .1; flipped = c .2 },
-          gaveBlock format (c .0) (c .1) (c .2) (c .3) out .output,
-          cut-read asked format w out (lent .room) (c .0) (c .1) (c .2) (c .3) (c .4),
+          record { format = format; scrambling = c .0; shaping = c .1; turn = c .2; flipped = c .3 },
+          gaveBlock format (c .0) (c .1) (c .2) (c .3) (c .4) out .output,
+          cut-read asked format w out (lent .room) (c .0) (c .1) (c .2) (c .3) (c .4) (c .5),
         ),
       );
-      gives = λ B t flipped u. (read-gave asked format w out (lent .size) B t flipped u, cut-read asked format w out (lent .room) B t flipped u);
+      gives = λ B esb t flipped u. (read-gave asked format w out (lent .size) B esb t flipped u, cut-read asked format w out (lent .room) B esb t flipped u);
     }

@@ -14,7 +14,7 @@ use Rattle.refusals.specs.declared.Refusal.{Refusal}
 use Rattle.refusals.specs.Table.{Verdict, refused, accepted, verdict}
 use Rattle.refusals.specs.Outcome.{Outcome, outcome}
 use Rattle.refusals.proofs.Table.{answer-by}
-use Rattle.telegrams.proofs.WellFormed.{scrambling-below}
+use Rattle.telegrams.proofs.WellFormed.{scrambling-below, shaping-below}
 use Rattle.reader.specs.declared.Asked.{Asked}
 use Rattle.reader.specs.declared.Reading.{Reading}
 use Rattle.reader.specs.declared.ReadAnswer.{ReadAnswer}
@@ -41,11 +41,14 @@ module _ (asked : Asked) (format : Format) (w : List ℕ) where
       is-false (readsAs asked format w) (λ h. fails (endsAgree F w) e (holds (endsAgree F w) (reads-passed asked format w .0 h .ends)))
 
   -- the numbers of what is read fit their fields
-  pub reads-below : T (readsAs asked format w) → (readingIn format w .scrambling < 4096) × (readingIn format w .turn < numbersOf format .n)
+  reads-below : T (readsAs asked format w)
+      → (readingIn format w .scrambling < 4096) × (readingIn format w .shaping < 1024) × (readingIn format w .turn < numbersOf format .n)
   unfolding readingIn readingOf
   reads-below h =
       let F = numbersOf format in
-      (scrambling-below F (telegramIn F (turnIn F w) w) (bits-found F (turnIn F w) w (reads-bits h)), turn-leaves F w (reads-passed asked format w .0 h .turn) .0)
+      let b = telegramIn F (turnIn F w) w in
+      let bits = bits-found F (turnIn F w) w (reads-bits h) in
+      (scrambling-below F b bits, shaping-below F b bits, turn-leaves F w (reads-passed asked format w .0 h .turn) .0)
 
 pub reading-format : (format : Format) (w : List ℕ) → readingIn format w .format ≡ format
 unfolding readingIn readingOf
@@ -137,6 +140,7 @@ pub record ReadAccepted (asked : Asked) (w out : List ℕ) (reading : Reading) :
   pub reads : reading ≡ readingIn (reading .format) w
   pub writes : readBy asked w out .output ≡ userBitsIn (reading .format) w ++ drop (numbersOf (reading .format) .m) out
   pub scrambling : reading .scrambling < 4096
+  pub shaping : reading .shaping < 1024
   pub turn : reading .turn < numbersOf (reading .format) .n
 
 pub read-accepted : (asked : Asked) (w out : List ℕ) (reading : Reading) → readBy asked w out .answer ≡ Read reading → ReadAccepted asked w out reading
@@ -156,5 +160,6 @@ read-accepted asked w out reading e =
       reads = refl;
       writes = writes;
       scrambling = below .0;
-      turn = below .1;
+      shaping = below .1;
+      turn = below .2;
     })

@@ -93,7 +93,8 @@ module _ (asked : Asked) (format : Format) (w : List ℕ) (p : Passed asked form
       ∙ sym (cut-oriented k t flipped (oriented flipped x) some ∙ ap (around k t) (oriented-twice flipped x (bits-back F t w bits)))
 
 pub reads-cut : (asked : Asked) (format : Format) (w : List ℕ) → T (readsAs asked format w)
-    → CutFrom asked format w (readingIn format w .scrambling) (readingIn format w .turn) (readingIn format w .flipped) (userBitsIn format w)
+    → let told = readingIn format w in
+    CutFrom asked format w (told .scrambling) (told .shaping) (told .turn) (told .flipped) (userBitsIn format w)
 unfolding readingIn readingOf userBitsIn
 reads-cut asked format w h =
     let F = numbersOf format in
@@ -102,6 +103,7 @@ reads-cut asked format w h =
       telegram = telegramIn F (turnIn F w) w;
       as-asked = asked-tested asked format (telegramIn F (turnIn F w) w) .1 (found-formed asked format w p, p .as-asked);
       scrambling = refl;
+      shaping = refl;
       userBits = refl;
       turn = below asked format w p;
       window = found-window asked format w p;

@@ -41,6 +41,11 @@ unfolding cut
 cut-oriented k t true b h = flip-around k t b h
 cut-oriented k t false b h = refl
 
+-- the first n bits of a longer window are the window of n bits
+pub cut-front : (n r t : ℕ) (flipped : Bool) (b : List ℕ) → 0 < length b → take n (cut (n + r) t flipped b) ≡ cut n t flipped b
+cut-front n r t flipped b h =
+    ap (take n) (cut-oriented (n + r) t flipped b h) ∙ take-around n r t (oriented flipped b) ∙ sym (cut-oriented n t flipped b h)
+
 -- ---- the window of n + r bits, from a ring b of n bits
 
 module _ (n r t : ℕ) (b : List ℕ) (size : length b ≡ n) where

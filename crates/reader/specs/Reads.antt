@@ -1,5 +1,5 @@
 -- What reading a window answers, and what the output holds afterwards (document 01, "Search, reading and place", and
--- "When the bench says no"; document 02, No. 2).
+-- "When the bench says no"; document 02, No. 2 and No. 11).
 -- Assumes nothing.
 use Prim.Native.Nat.{ℕ, _-_}
 use mathlib.Core.Bool.{Bool, true, false, not}
@@ -20,7 +20,7 @@ use Rattle.cyclic.specs.declared.Turn.the-variants.{At, Nothing}
 use Rattle.cyclic.specs.Remainder.{remainder}
 use Rattle.cyclic.specs.Check.{turned, turnOf, divisible}
 use Rattle.telegrams.specs.Telegram.{control}
-use Rattle.telegrams.specs.Fields.{controlOf, scramblingOf, allWords, userBitsOf}
+use Rattle.telegrams.specs.Fields.{controlOf, scramblingOf, shapingOf, allWords, userBitsOf}
 use Rattle.conditions.specs.FirstFailing.{conditionTable}
 use Rattle.reader.specs.declared.Asked.{Asked}
 use Rattle.reader.specs.declared.Asked.the-variants.{WellFormed, Proper}
@@ -29,13 +29,14 @@ use Rattle.reader.specs.declared.ReadAnswer.{ReadAnswer}
 use Rattle.reader.specs.declared.ReadAnswer.the-variants.{Read, Refused}
 use Rattle.reader.specs.Windows.{oriented}
 
--- the values of each answer: the number, 0 where nothing is refused, and those of the reading: format, flipped or not, B and turn
-abbrev pub readingValues : Reading → List ℕ
-readingValues reading =
-    formatNumber (reading .format) ∷ flippedNumber (reading .flipped) ∷ reading .scrambling ∷ reading .turn ∷ []
+-- the values of a reading: format, flipped or not, B, turn, the window's place in a capture, and esb
+abbrev pub readingValues : ℕ → Reading → List ℕ
+readingValues place reading =
+    formatNumber (reading .format) ∷ flippedNumber (reading .flipped) ∷ reading .scrambling ∷ reading .turn ∷ place ∷ reading .shaping ∷ []
 
+-- the values of each answer: the number, 0 where nothing is refused, and those of the reading, at place 0
 abbrev pub readValues : ReadAnswer → List ℕ
-readValues (Read reading) = 0 ∷ readingValues reading
+readValues (Read reading) = 0 ∷ readingValues 0 reading
 readValues (Refused refusal) = refusalNumber refusal ∷ []
 
 -- the format that the window's length picks
@@ -106,7 +107,8 @@ readTable asked format room w =
 -- what the telegram b tells, found at the turn t
 unfoldable pub readingOf : Format → ℕ → Bool → List ℕ → Reading
 readingOf format t flipped b =
-    record { format = format; scrambling = scramblingOf (numbersOf format) b; turn = t; flipped = flipped }
+    let F = numbersOf format in
+    record { format = format; scrambling = scramblingOf F b; shaping = shapingOf F b; turn = t; flipped = flipped }
 
 -- what the window tells besides the user bits
 unfoldable pub readingIn : Format → List ℕ → Reading

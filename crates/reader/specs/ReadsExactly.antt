@@ -1,4 +1,4 @@
--- What reading a window means (the request, demands 1 and 2; document 01, "When the bench says no"; document 02, No. 2).
+-- What reading a window means (the request, demands 1 and 2; document 01, "When the bench says no"; document 02, No. 2 and No. 11).
 -- Assumes nothing.
 use Prim.Native.Nat.{ℕ, _≤_}
 use mathlib.Core.Bool.{Bool}
@@ -20,10 +20,10 @@ use Rattle.reader.specs.declared.ReadAnswer.the-variants.{Read, Refused}
 use Rattle.reader.specs.Reads.{formatOf, turnIn, telegramIn, readTable, readBy, readOf, readWellFormedOf}
 use Rattle.reader.specs.CutFrom.{CutFrom}
 
--- format, B, turn, upright or flipped, and the user bits u over the front of the output
-abbrev pub gaveBlock : Format → ℕ → ℕ → Bool → List ℕ → List ℕ → Outcome ReadAnswer
-gaveBlock format B t flipped u out =
-    outcome (Read (record { format = format; scrambling = B; turn = t; flipped = flipped })) (u ++ drop (numbersOf format .m) out)
+-- format, B, esb, turn, upright or flipped, and the user bits u over the front of the output
+abbrev pub gaveBlock : Format → ℕ → ℕ → ℕ → Bool → List ℕ → List ℕ → Outcome ReadAnswer
+gaveBlock format B esb t flipped u out =
+    outcome (Read (record { format = format; scrambling = B; shaping = esb; turn = t; flipped = flipped })) (u ++ drop (numbersOf format .m) out)
 
 -- demand 1: what a call answers by its table; each quotation is from document 01, "When the bench says no"
 pub record ReadAnswers (asked : Asked) (w out : List ℕ) : Type 0 where
@@ -44,10 +44,10 @@ pub record LentWindow (format : Format) (w out : List ℕ) : Type 0 where
 -- flipped, and gives what that telegram carries" (its bits are 0 or 1, so a window with another byte is cut from none)
 pub record ReadsExactly (asked : Asked) (format : Format) (w out : List ℕ) : Type 0 where
   pub accepts : ((reading : Reading) × (o : List ℕ) × (readBy asked w out ≡ outcome (Read reading) o))
-      ↔ ((B : ℕ) × (t : ℕ) × (flipped : Bool) × (u : List ℕ) × CutFrom asked format w B t flipped u)
-  -- this format, B, turn, way up and block exactly when it is cut so from a telegram with these
-  pub gives : (B t : ℕ) (flipped : Bool) (u : List ℕ)
-      → (readBy asked w out ≡ gaveBlock format B t flipped u out) ↔ CutFrom asked format w B t flipped u
+      ↔ ((B : ℕ) × (esb : ℕ) × (t : ℕ) × (flipped : Bool) × (u : List ℕ) × CutFrom asked format w B esb t flipped u)
+  -- this format, B, esb, turn, way up and block exactly when it is cut so from a telegram with these
+  pub gives : (B esb t : ℕ) (flipped : Bool) (u : List ℕ)
+      → (readBy asked w out ≡ gaveBlock format B esb t flipped u out) ↔ CutFrom asked format w B esb t flipped u
 
 -- document 02, No. 2: what read answers by what read_well_formed does
 pub record ReadsStrictly (w out : List ℕ) : Type 0 where

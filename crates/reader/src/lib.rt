@@ -21,6 +21,7 @@ pub enum Asked {
 pub struct Reading {
     pub format: Format,
     pub scrambling: u16,
+    pub shaping: u16,
     pub turn: usize,
     pub flipped: bool,
 }

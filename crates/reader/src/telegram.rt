@@ -58,11 +58,13 @@ fn read_telegram(
         return ReadAnswer::Refused(refusal);
     }
     let b = fields::scrambling_bits(format, telegram);
+    let esb = fields::shaping_bits(format, telegram);
     let m = format::user_bits(format);
     undoing::write_user_bits(b, &unshaped[..m], output);
     ReadAnswer::Read(Reading {
         format,
         scrambling: b,
+        shaping: esb,
         turn: t,
         flipped,
     })

@@ -1,4 +1,4 @@
-// What programs print of a reading (document 01, "Bench sheet"), and the program that reads a window from standard input,
+// What programs print of a reading (document 01, "Bench sheet"; document 02, No. 11), and the program that reads a window from standard input,
 // characters 0 and 1. No contract can say what is written.
 use formats::format;
 use formats::format::Long;
@@ -16,6 +16,7 @@ pub fn print_reading(reading: Reading, user_bits: &[u8]) {
     output::print_field(b"turn", reading.turn as u64);
     output::print_field(b"sb", reading.scrambling as u64);
     output::print_flipped(reading.flipped);
+    output::print_field(b"esb", reading.shaping as u64);
     output::end_line();
     output::print_bits(front(user_bits, format::user_bits(format)));
 }

@@ -2,7 +2,7 @@
 use Prim.Native.Nat.{_≤_, _<_}
 use native.Mathlib.Omega.{arith}
 use Rattle.refusals.specs.declared.Refusal.{Refusal}
-use Rattle.refusals.specs.declared.Refusal.the-variants.{Length, NotBit, OutputShort, NoPair, EndsDiffer, NotDivisible, NoTurn, Control, NotWord, OffStep, Repeating, Thinned, NoPlace}
+use Rattle.refusals.specs.declared.Refusal.the-variants.{Length, NotBit, OutputShort, NoPair, EndsDiffer, NotDivisible, NoTurn, Control, NotWord, OffStep, Repeating, Thinned, NoPlace, PairTooLarge}
 use Rattle.refusals.specs.Refused.{refusalNumber}
 
 -- and not 0, which stands for none
@@ -20,3 +20,4 @@ number-fits OffStep = (omega arith, omega arith)
 number-fits Repeating = (omega arith, omega arith)
 number-fits Thinned = (omega arith, omega arith)
 number-fits NoPlace = (omega arith, omega arith)
+number-fits PairTooLarge = (omega arith, omega arith)

@@ -10,7 +10,7 @@ use lib.Dec.{T, ltb, ltb→lt}
 use Rattle.bits.proofs.And.{and-left, and-right}
 use Rattle.bits.proofs.Tests.{clash}
 use Rattle.refusals.specs.Outcome.{Outcome}
-use Rattle.refusals.specs.Table.{Row, _when_, Verdict, refused, accepted, verdict, accepts, answerBy, outcomeBy, Applies, FirstApplies, Lowest, RefusesBy, risesAbove}
+use Rattle.refusals.specs.Table.{Row, _when_, Verdict, refused, accepted, verdict, accepts, answerBy, outcomeBy, Applies, FirstApplies, Lowest, RefusesBy, RefusesInOrder, risesAbove}
 
 module _ {R : Type 0} where
   -- ---- a verdict is one of the two
@@ -209,10 +209,20 @@ module _ {R A : Type 0} (refuse : R → A) (said : A → Verdict R) (known : (r 
   outcome-kept out accept h (refused q) r e = refl
   outcome-kept out accept h accepted r e = accepted-refused r (sym h ∙ ap said e ∙ known r)
 
-  -- where the numbers rise, it is a refusal exactly where that is the lowest that applies
+  -- it is a refusal exactly where the verdict is
+  verdict-of : ((a : A) (r : R) → said a ≡ refused r → a ≡ refuse r) → (a : A) (v : Verdict R) → said a ≡ v → (r : R) → (a ≡ refuse r) ↔ (v ≡ refused r)
+  verdict-of only a v e r = (λ f. sym e ∙ ap said f ∙ known r, λ g. only a r (e ∙ g))
+
+  -- so exactly where that is the first that applies
+  pub refuses-in-order : ((a : A) (r : R) → said a ≡ refused r → a ≡ refuse r) → (rows : List (Row R)) (a : A) → said a ≡ verdict rows
+      → RefusesInOrder refuse rows a
+  refuses-in-order only rows a e r =
+      let is = verdict-of only a (verdict rows) e r in
+      (λ f. given rows r .0 (is .0 f), λ first. is .1 (given rows r .1 first))
+
+  -- which is the lowest that applies where the numbers rise
   pub refuses-by : ((a : A) (r : R) → said a ≡ refused r → a ≡ refuse r) → (number : R → ℕ) (rows : List (Row R)) → T (risesAbove number 0 rows)
       → (a : A) → said a ≡ verdict rows → RefusesBy number refuse rows a
-  refuses-by only number rows h a e r = (
-    λ f. lowest-given number rows h r .0 (sym e ∙ ap said f ∙ known r),
-    λ l. only a r (e ∙ lowest-given number rows h r .1 l),
-  )
+  refuses-by only number rows h a e r =
+      let is = verdict-of only a (verdict rows) e r in
+      (λ f. lowest-given number rows h r .0 (is .0 f), λ l. is .1 (lowest-given number rows h r .1 l))

@@ -1,16 +1,16 @@
--- The refusals' numbers, and the count that refusal 4 carries (document 01, "When the bench says no").
+-- The refusals' numbers, and the count that refusal 4 carries (document 01, "When the bench says no"; document 02, No. 11).
 -- Assumes nothing.
 use Prim.Native.Nat.{ℕ}
 use mathlib.Core.Bool.{cond}
 use lib.Dec.{eqb}
 use Rattle.refusals.specs.declared.Refusal.{Refusal}
-use Rattle.refusals.specs.declared.Refusal.the-variants.{Length, NotBit, OutputShort, NoPair, EndsDiffer, NotDivisible, NoTurn, Control, NotWord, OffStep, Repeating, Thinned, NoPlace}
+use Rattle.refusals.specs.declared.Refusal.the-variants.{Length, NotBit, OutputShort, NoPair, EndsDiffer, NotDivisible, NoTurn, Control, NotWord, OffStep, Repeating, Thinned, NoPlace, PairTooLarge}
 
 -- the pairs of scrambling and extra shaping bits: B from 0 to 4095 and, within each, esb from 0 to 1023
 abbrev pub pairCount : ℕ
 pairCount = 4194304
 
--- the number of each, in the order of document 01's list
+-- the number of each, in the order of document 01's list, and 27, B or esb too large
 abbrev pub refusalNumber : Refusal → ℕ
 refusalNumber Length = 1
 refusalNumber NotBit = 2
@@ -25,6 +25,7 @@ refusalNumber OffStep = 10
 refusalNumber Repeating = 11
 refusalNumber Thinned = 12
 refusalNumber NoPlace = 13
+refusalNumber PairTooLarge = 27
 
 -- the count of pairs tried that refusal 4 carries, which is that of all pairs; 0 for every other
 abbrev pub triedCount : Refusal → ℕ

@@ -65,6 +65,10 @@ pub record Lowest {R : Type 0} (number : R → ℕ) (rows : List (Row R)) (r : R
 abbrev pub RefusesBy : {R A : Type 0} → (R → ℕ) → (R → A) → List (Row R) → A → Type 0
 RefusesBy {R} number refuse rows answer = (r : R) → (answer ≡ refuse r) ↔ Lowest number rows r
 
+-- where the order of the tests is not that of the numbers: it is a refusal exactly where that is the first that applies
+abbrev pub RefusesInOrder : {R A : Type 0} → (R → A) → List (Row R) → A → Type 0
+RefusesInOrder {R} refuse rows answer = (r : R) → (answer ≡ refuse r) ↔ FirstApplies rows r
+
 -- the numbers of the rows rise, from above k on
 unfoldable pub risesAbove : {R : Type 0} → (R → ℕ) → ℕ → List (Row R) → Bool
 risesAbove number k [] = true

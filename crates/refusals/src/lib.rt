@@ -1,4 +1,4 @@
-// The refusals and their numbers (document 01, "When the bench says no", in its order).
+// The refusals and their numbers (document 01, "When the bench says no", in its order; 27 is document 02's, No. 11).
 ghost use mathlib.Core.Path.{_≡_};
 ghost use Rattle.refusals.specs.Refused.{refusalNumber, triedCount};
 
@@ -16,6 +16,7 @@ pub enum Refusal {
     Repeating,
     Thinned,
     NoPlace,
+    PairTooLarge,
 }
 
 // How many pairs of scrambling and extra shaping bits there are.
@@ -39,6 +40,7 @@ pub fn number(refusal: Refusal) -> u8
         Refusal::Repeating => 11,
         Refusal::Thinned => 12,
         Refusal::NoPlace => 13,
+        Refusal::PairTooLarge => 27,
     }
 }
 

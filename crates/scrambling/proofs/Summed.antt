@@ -63,6 +63,10 @@ pub withSum-bits : (k : ℕ) (u : List ℕ) → T (allBits u) → T (allBits (wi
 unfolding withSum
 withSum-bits k u h = replaced-bits (sumOfBlocks k u % 1024) u h
 
+pub withoutSum-bits : (k : ℕ) (v : List ℕ) → T (allBits v) → T (allBits (withoutSum k v))
+unfolding withoutSum
+withoutSum-bits k v h = replaced-bits ((firstBlock v + (1024 - sumOfOthers k v % 1024)) % 1024) v h
+
 pub withoutSum-withSum : (k : ℕ) (u : List ℕ) → T (allBits u) → 1 ≤ k → 10 ≤ length u → withoutSum k (withSum k u) ≡ u
 unfolding withSum
 withoutSum-withSum k u h one l =

@@ -15,8 +15,8 @@ use Rattle.formats.specs.Numbers.{Numbers, blocks}
 use Rattle.formats.proofs.Sizes.{Sizes}
 use Rattle.scrambling.specs.Scrambling.{scrambled, descrambled}
 use Rattle.scrambling.specs.Sum.{withSum, withoutSum}
-use Rattle.scrambling.proofs.Scrambled.{scrambled-length, scrambled-bits, descrambled-length, descrambled-scrambled}
-use Rattle.scrambling.proofs.Summed.{withSum-length, withSum-bits, withoutSum-length, withoutSum-withSum}
+use Rattle.scrambling.proofs.Scrambled.{scrambled-length, scrambled-bits, descrambled-length, descrambled-bits, descrambled-scrambled}
+use Rattle.scrambling.proofs.Summed.{withSum-length, withSum-bits, withoutSum-length, withoutSum-bits, withoutSum-withSum}
 use Rattle.cyclic.specs.Check.{checkBits}
 use Rattle.cyclic.proofs.Laws.{Facts, bits-checkBits, length-checkBits}
 use Rattle.telegrams.specs.Telegram.{shapedData, control, settings, unchecked, telegramOf}
@@ -67,6 +67,12 @@ length-userBits F S b =
     let d = descrambled (scramblingOf F b) s in
     let size : length d ≡ F .m = descrambled-length (scramblingOf F b) s ∙ length-unshaped (blocks F) b ∙ sym (S .m-is) in
     withoutSum-length (blocks F) d (omega (arith, S .m-is, S .some)) ∙ size
+
+pub bits-userBits : (F : Numbers) (b : List ℕ) → T (allBits (userBitsOf F b))
+unfolding userBitsOf
+bits-userBits F b =
+    let s = unshaped (blocks F) b in
+    withoutSum-bits (blocks F) (descrambled (scramblingOf F b) s) (descrambled-bits (scramblingOf F b) s)
 
 -- ---- the telegram made from u, B and esb
 

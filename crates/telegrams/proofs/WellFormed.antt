@@ -2,7 +2,7 @@
 -- Assumes nothing.
 use Prim.Native.Nat.{ℕ, _+_, _-_, _*_, _≤_, _<_}
 use mathlib.Core.Path.{_≡_, refl, sym, ap, ap₂, subst, _∙_}
-use mathlib.Core.Bool.{true, _&&_, and-assoc}
+use mathlib.Core.Bool.{Bool, true, _&&_, and-assoc}
 use mathlib.Core.List.{List, _++_}
 use native.Mathlib.Omega.{arith}
 use lib.Dec.{T, eqb, eqb→eq, eqb-refl}
@@ -14,7 +14,7 @@ use Rattle.bits.proofs.And.{and-left, and-right, and-of}
 use Rattle.bits.proofs.Groups.{groups-add}
 use Rattle.bits.proofs.Equal.{same-equal, same-of}
 use Rattle.bits.proofs.Parts.{drop-from, front-below, front-bits}
-use Rattle.bits.proofs.Tests.{tests-agree}
+use Rattle.bits.proofs.Tests.{is-true, tests-agree}
 use Rattle.formats.specs.Numbers.{Numbers, blocks}
 use Rattle.formats.proofs.Sizes.{Sizes}
 use Rattle.words.specs.Words.{isWord}
@@ -158,3 +158,10 @@ module _ (F : Numbers) (A : Facts F) (S : Sizes F) (u : List ℕ) (B esb : ℕ) 
       tests-agree (wellFormed F t) last
       (λ h. and-right (allWords (blocks F) t) last (subst T (words-split F S t) (parts F t h .all-words)))
       (λ h. from-parts F t (made-parts h))
+
+  -- and so if all of them are
+  pub made-by-words : wellFormed F (telegramOf F u B esb) ≡ allWords (F .words) (telegramOf F u B esb)
+  made-by-words =
+      let t = telegramOf F u B esb in
+      let last = allWords 10 (drop (F .n - 110) t) in
+      made-well-formed ∙ sym (words-split F S t ∙ ap (λ (x : Bool). x && last) (is-true (allWords (blocks F) t) (words-made F A S u B esb)))

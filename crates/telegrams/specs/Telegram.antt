@@ -1,8 +1,10 @@
 -- The telegram made from a block of user bits, the scrambling bits' number B and the extra shaping bits' number
--- (document 01, "The telegram, left to right").
+-- (document 01, "The telegram, left to right"; document 02, No. 11).
 -- Assumes nothing.
 use Prim.Native.Nat.{ℕ}
+use mathlib.Core.Bool.{Bool, _&&_}
 use mathlib.Core.List.{List, [], _∷_, _++_}
+use lib.Dec.{leb}
 use Rattle.bits.specs.Bits.{numberOf, bitsOf}
 use Rattle.bits.specs.Groups.{eachGroup}
 use Rattle.formats.specs.Numbers.{Numbers, blocks}
@@ -22,6 +24,10 @@ shapedData F u B = shaped (blocks F) (scrambled B (withSum (blocks F) u))
 -- b109 to b107
 abbrev pub control : List ℕ
 control = 0 ∷ 0 ∷ 1 ∷ []
+
+-- B and esb are numbers of twelve and ten bits
+abbrev pub isPair : ℕ → ℕ → Bool
+isPair B esb = leb B 4095 && leb esb 1023
 
 -- b109 to b85: control bits, scrambling bits, extra shaping bits
 unfoldable pub settings : ℕ → ℕ → List ℕ

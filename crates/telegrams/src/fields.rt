@@ -1,12 +1,12 @@
 // The fields of a telegram (document 01, "The telegram, left to right").
 ghost use mathlib.Core.Path.{_≡_};
-ghost use Prim.Native.Nat.{_*_, _≤_};
+ghost use Prim.Native.Nat.{_-_, _*_, _≤_};
 ghost use lib.Dec.{T};
-ghost use lib.ListN.{length};
-ghost use Rattle.bits.specs.Bits.{allBits, same};
+ghost use lib.ListN.{length, take, drop};
+ghost use Rattle.bits.specs.Bits.{allBits, same, numberOf};
 ghost use Rattle.formats.specs.Numbers.{numbersOf};
 ghost use Rattle.telegrams.specs.Telegram.{control};
-ghost use Rattle.telegrams.specs.Fields.{controlOf, scramblingOf, allWords};
+ghost use Rattle.telegrams.specs.Fields.{controlOf, scramblingOf, shapingOf, allWords};
 use formats::format;
 use formats::format::Format;
 
@@ -41,12 +41,31 @@ pub fn has_control(format: Format, telegram: &[u8]) -> bool
     bits::same(&telegram[at..at + 3], &control)
 }
 
+// The k bits from b(top-1) on, of a telegram of n bits, as a number.
+fn field(format: Format, telegram: &[u8], top: usize, k: usize) -> u16
+    requires { ⌜ T (allBits (now telegram)) ⌝ }
+    requires { ⌜ numbersOf format .n ≤ length (now telegram) ⌝ }
+    requires { ⌜ (k ≤ top) × ((top ≤ 110) × (k ≤ 12)) ⌝ }
+    ensures { λ r. ⌜ r ≡ numberOf (take k (drop (numbersOf format .n - top) (now (telegram .entry)))) ⌝ }
+{
+    let n = format::telegram_bits(format);
+    bits::number(telegram, n - top, k) as u16
+}
+
 // The scrambling bits, b106 to b95, as a number.
 pub fn scrambling_bits(format: Format, telegram: &[u8]) -> u16
     requires { ⌜ T (allBits (now telegram)) ⌝ }
     requires { ⌜ numbersOf format .n ≤ length (now telegram) ⌝ }
     ensures { λ r. ⌜ r ≡ scramblingOf (numbersOf format) (now (telegram .entry)) ⌝ }
 {
-    let n = format::telegram_bits(format);
-    bits::number(telegram, n - 107, 12) as u16
+    field(format, telegram, 107, 12)
+}
+
+// The extra shaping bits, b94 to b85, as a number.
+pub fn shaping_bits(format: Format, telegram: &[u8]) -> u16
+    requires { ⌜ T (allBits (now telegram)) ⌝ }
+    requires { ⌜ numbersOf format .n ≤ length (now telegram) ⌝ }
+    ensures { λ r. ⌜ r ≡ shapingOf (numbersOf format) (now (telegram .entry)) ⌝ }
+{
+    field(format, telegram, 95, 10)
 }

@@ -10,7 +10,7 @@ ghost use Rattle.formats.specs.Numbers.{numbersOf, blocks};
 ghost use Rattle.scrambling.specs.Scrambling.{scrambled};
 ghost use Rattle.scrambling.specs.Sum.{withSum};
 ghost use Rattle.cyclic.specs.Check.{checkBits};
-ghost use Rattle.telegrams.specs.Telegram.{shaped, settings, telegramOf};
+ghost use Rattle.telegrams.specs.Telegram.{shaped, isPair, settings, telegramOf};
 use cyclic::check_bits;
 use formats::format;
 use formats::format::Format;
@@ -54,6 +54,13 @@ pub fn write_shaped_data(format: Format, summed: &[u8], b: u16, telegram: &mut [
     let mut scrambled = [0u8; Long::M];
     scrambling::scramble(b, summed, &mut scrambled);
     shape(&scrambled, summed.len() / 10, telegram);
+}
+
+// Whether b and esb are numbers of twelve and ten bits.
+pub fn is_pair(b: u64, esb: u64) -> bool
+    ensures { λ r. ⌜ r ≡ isPair b esb ⌝ }
+{
+    b <= 4095 && esb <= 1023
 }
 
 // Control bits, scrambling bits and extra shaping bits over the front of out.

@@ -1,8 +1,9 @@
-// The text of the bench's programs: bits read from characters and written as characters, and the lines
-// that the programs print.
+// The text of the bench's programs: bits read from characters and written as characters, numbers read from their
+// digits, and the lines that the programs print.
 ghost use mathlib.Core.Path.{_≡_};
 ghost use lib.ListN.{take};
 
+pub mod decimal;
 mod faults;
 pub mod input;
 pub mod output;

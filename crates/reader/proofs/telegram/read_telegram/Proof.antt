@@ -19,6 +19,7 @@ use Rattle.telegrams.specs.Fields.{controlOf, allWords, unshaped}
 use Rattle.telegrams.specs.Unshaped.{wholeIf}
 use Rattle.telegrams.proofs.Shaping.{length-unshaped, bits-unshaped}
 use Rattle.telegrams.proofs.Buffers.UserBits.{data-blocks, user-bits}
+use Rattle.reader.specs.declared.Reading.{Reading}
 use Rattle.reader.specs.declared.ReadAnswer.the-variants.{Read}
 use Rattle.reader.specs.Reads.{readingOf}
 use Rattle.reader.proofs.Steps.{control-refused, word-refused, condition-refused, telegram-read}
@@ -131,25 +132,28 @@ enum-told-3 c = search needs
 scrambling-bits-requires : tie.Need-scrambling-bits-requires
 scrambling-bits-requires c κs = search needs
 
+shaping-bits-requires : tie.Need-shaping-bits-requires
+shaping-bits-requires c κs = search needs
+
 user-bits-requires : tie.Need-user-bits-requires
 user-bits-requires c κs = search needs
 
 array-share-prefix-unshaped : tie.Need-array-share-prefix-unshaped
 array-share-prefix-unshaped c =
-    let call = c .before .before .before .before .before .before .before .before in
+    let call = c .before .before .before .before .before .before .before .before .before in
     let start = call .before .before .before .before .before .before .before in
     omega (arith, block-between (start .args .format), call .unshape .kept)
 
 slice-aggregate-write-user-bits : tie.Need-slice-aggregate-write-user-bits
 slice-aggregate-write-user-bits c =
     let bits = c .before in
-    let u = bits .before .before .before .before .before .before .before .before .unshape .last .1 .1 .0 in
+    let u = bits .before .before .before .before .before .before .before .before .before .unshape .last .1 .1 .0 in
     sym (length-take-le (bits .user-bits .result) u (array-share-prefix-unshaped bits))
 
 write-user-bits-requires : tie.Need-write-user-bits-requires
 write-user-bits-requires c κs =
     let bits = c .before .before in
-    let told = bits .before .before .before .before .before in
+    let told = bits .before .before .before .before .before .before in
     let call = told .before .before .before in
     let words = call .before .before in
     let start = words .before .before .before .before .before in
@@ -173,7 +177,7 @@ unfolding readingOf
 returns-4 c =
     let wrote = c .before .before in
     let bits = wrote .before .before .before in
-    let none = bits .before .before in
+    let none = bits .before .before .before in
     let tests = none .before .before in
     let told = tests .before in
     let call = told .before .before .before in
@@ -183,16 +187,17 @@ returns-4 c =
     let F = numbersOf (a .format) in
     let b = a .telegram .now in
     let u = call .unshape .last .1 .1 .0 in
-    let B = bits .before .scrambling-bits .result in
-    let B-is = bits .before .scrambling-bits .ensures in
+    let B = bits .before .before .scrambling-bits .result in
+    let B-is = bits .before .before .scrambling-bits .ensures in
+    let esb-is = bits .before .shaping-bits .ensures in
+    let reading : ℕ → ℕ → Reading = λ x y. record { format = a .format; scrambling = x; shaping = y; turn = a .t; flipped = a .flipped } in
     let written =
     user-bits F (sizesOf (a .format)) b u (drop (10 * words .words .result) zeros) (words .words .result) (bits .user-bits .result)
     (words .words .ensures) (bits .user-bits .ensures) (filled told)
     B B-is (a .output .now) (wrote .write-user-bits .last .1 .1 .0) (wrote .write-user-bits .ensures) in
     telegram-read (a .asked) (a .format) (a .t) (a .flipped) b (a .output .now) (controlled (words .before)) (all-worded told)
     (sym (tests .first-failing .ensures) ∙ none .enum-told3 .given .1)
-    ∙ ap₂ (λ (x : ℕ) (o : List ℕ). outcome (Read (record { format = a .format; scrambling = x; turn = a .t; flipped = a .flipped })) o)
-    (sym B-is) (sym written)
+    ∙ ap₂ (λ (r : Reading) (o : List ℕ). outcome (Read r) o) (ap₂ reading (sym B-is) (sym esb-is)) (sym written)
 
 pub read-telegram-spec : {M : Type 1} → statement M
 read-telegram-spec =
@@ -211,6 +216,7 @@ read-telegram-spec =
     returns-3
     enum-told-3
     scrambling-bits-requires
+    shaping-bits-requires
     user-bits-requires
     array-share-prefix-unshaped
     slice-aggregate-write-user-bits

@@ -1,0 +1,27 @@
+-- `balise::as_number::made` meets its contract, case by case. Assumes nothing.
+use mathlib.Core.Path.{ap}
+use Prim.Native.Nat.{ℕ}
+use native.Mathlib.Omega.{arith}
+use borrow.Author.Needs.{needs}
+use Rattle.maker.specs.declared.Made.{Made}
+use Rattle.maker.specs.Making.{madeValues}
+use Rattle.balise.specs.AsNumber.{packed, madeSizes}
+use Rattle.balise.proofs.as_number.made.Statement.{statement}
+use Rattle.balise.proofs.as_number.made.Tie as tie
+
+abbrev number : Made → ℕ
+number a = packed madeSizes (madeValues a)
+
+returns : tie.Need-returns
+returns c = omega (arith, ap number (c .before .before .answer .given .1))
+
+returns-2 : tie.Need-returns-2
+returns-2 c = omega (arith, ap number (c .before .before .answer2 .given .1))
+
+pub made-spec : {M : Type 1} → statement M
+made-spec =
+    tie.close
+    (tie.spec
+    (λ c. search needs) (λ c κs. search needs) (λ c. search needs) (λ c. search needs)
+    (λ c. search needs) (λ c κs. search needs) (λ c. search needs)
+    returns returns-2)
