@@ -1,8 +1,8 @@
--- What was read is made again, and what was made reads back (document 02, No. 11). Assumes nothing.
+-- What was read is made again, and what was encoded, and what was made reads back (document 02, No. 11). Assumes nothing.
 use mathlib.Core.Path.{_≡_, refl, sym, ap, subst, _∙_}
 use mathlib.Core.Bool.{Bool}
-use mathlib.Core.List.{List, _++_}
-use Prim.Native.Nat.{ℕ, _+_, _≤_, _<_}
+use mathlib.Core.List.{List}
+use Prim.Native.Nat.{ℕ, _≤_, _<_}
 use native.Mathlib.Omega.{arith}
 use lib.Dec.{T}
 use lib.ListN.{length, take, drop}
@@ -15,11 +15,15 @@ use Rattle.telegrams.specs.Telegram.{telegramOf}
 use Rattle.telegrams.specs.Fields.{wellFormed}
 use Rattle.telegrams.proofs.Made.{length-userBits, bits-userBits}
 use Rattle.telegrams.proofs.WellFormed.{parts}
+use Rattle.conditions.proofs.Proper.{proper-parts}
+use Rattle.encoder.specs.declared.Encoded.the-variants.{Pair}
+use Rattle.encoder.specs.Encoding.{encodeOf}
+use Rattle.encoder.proofs.Accepted.{encode-accepted, accepted-front}
 use Rattle.maker.specs.declared.Made.{Made}
 use Rattle.maker.specs.declared.Made.the-variants.{Telegram}
 use Rattle.maker.specs.Making.{wrote, makeOf}
 use Rattle.maker.specs.Makes.{InOrder, Carries}
-use Rattle.maker.proofs.Exact.{made, makes-exactly}
+use Rattle.maker.proofs.Exact.{made, makes, makes-exactly}
 use Rattle.reader.specs.declared.Asked.{Asked}
 use Rattle.reader.specs.declared.Asked.the-variants.{WellFormed, Proper}
 use Rattle.reader.specs.declared.Reading.{Reading}
@@ -127,6 +131,26 @@ capture-again s out p reading o e lent room =
           ∙ take-take (F .n) (windowBits F) (drop p s) (omega arith);
     }
 
+-- ---- what was encoded
+
+encoded-again : (u out : List ℕ) (format : Format) (B esb tried : ℕ) → encodeOf u out .answer ≡ Pair format B esb tried
+    → (lent : List ℕ) → numbersOf format .n ≤ length lent
+    → makeOf u B esb lent ≡ wrote format (take (numbersOf format .n) (encodeOf u out .output)) lent
+encoded-again u out format B esb tried e lent room =
+    let F = numbersOf format in
+    let a = encode-accepted u out format B esb tried e in
+    let in-order : InOrder format u B esb lent =
+    record {
+      size = a .clean .size;
+      bits = a .clean .bits;
+      scrambling = a .first .scrambling;
+      shaping = a .first .shaping;
+      room = room;
+    } in
+    let formed = proper-parts format (telegramOf F u B esb) (a .first .properPair) .well-formed in
+    makes u B esb lent format in-order formed
+    ∙ ap (λ (b : List ℕ). wrote format b lent) (sym (accepted-front u out format B esb tried e))
+
 -- ---- what was made
 
 reads-back : (u : List ℕ) (B esb : ℕ) (lent : List ℕ) (format : Format) → makeOf u B esb lent .answer ≡ Telegram format
@@ -152,4 +176,4 @@ reads-back u B esb lent format e t below flipped out room =
     }))
 
 pub makes-again : MakesAgain
-makes-again = record { window = window-again; capture = capture-again; readsBack = reads-back }
+makes-again = record { window = window-again; capture = capture-again; encoded = encoded-again; readsBack = reads-back }

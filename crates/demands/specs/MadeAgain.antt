@@ -1,5 +1,5 @@
--- What was read is made again, and what was made reads back (document 02, No. 11), about reading, searching and making themselves
--- (`readBy`, `searchReadOf`, `makeOf`).
+-- What was read is made again, and what was encoded, and what was made reads back (document 02, No. 11), about the calls themselves
+-- (`readBy`, `searchReadOf`, `encodeOf`, `makeOf`).
 -- Assumes nothing.
 use Prim.Native.Nat.{ℕ, _≤_, _<_}
 use mathlib.Core.Bool.{Bool}
@@ -9,8 +9,10 @@ use lib.ListN.{length, take, drop}
 use Rattle.formats.specs.declared.format.Format.{Format}
 use Rattle.formats.specs.Numbers.{numbersOf, windowBits}
 use Rattle.refusals.specs.Outcome.{outcome}
+use Rattle.encoder.specs.declared.Encoded.the-variants.{Pair}
+use Rattle.encoder.specs.Encoding.{encodeOf}
 use Rattle.maker.specs.declared.Made.the-variants.{Telegram}
-use Rattle.maker.specs.Making.{makeOf}
+use Rattle.maker.specs.Making.{wrote, makeOf}
 use Rattle.reader.specs.declared.Asked.{Asked}
 use Rattle.reader.specs.declared.Reading.{Reading}
 use Rattle.reader.specs.declared.ReadAnswer.the-variants.{Read}
@@ -35,6 +37,10 @@ pub record MakesAgain : Type 0 where
   -- and by the search of a capture s, whose window stands at the place p
   pub capture : (s out : List ℕ) (p : ℕ) (reading : Reading) (o : List ℕ) → searchReadOf s out ≡ outcome (Found p reading) o
       → (lent : List ℕ) → numbersOf (reading .format) .n ≤ length lent → MadeAgain reading o lent (drop p s)
+  -- what encode wrote is made again from its answer
+  pub encoded : (u out : List ℕ) (format : Format) (B esb tried : ℕ) → encodeOf u out .answer ≡ Pair format B esb tried
+      → (lent : List ℕ) → numbersOf format .n ≤ length lent
+      → makeOf u B esb lent ≡ wrote format (take (numbersOf format .n) (encodeOf u out .output)) lent
   -- what was made reads back: every window of its n bits, by read_well_formed, to the block, B, esb, turn and way up
   pub readsBack : (u : List ℕ) (B esb : ℕ) (lent : List ℕ) (format : Format) → makeOf u B esb lent .answer ≡ Telegram format
       → (t : ℕ) → t < numbersOf format .n → (flipped : Bool) (out : List ℕ) → numbersOf format .m ≤ length out

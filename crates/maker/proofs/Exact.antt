@@ -1,8 +1,7 @@
 -- Making a telegram means what it is to mean: it refuses by its table, and makes the well-formed telegram of block, B and esb exactly where
 -- there is one. Assumes nothing.
 use mathlib.Core.Path.{_≡_, refl, sym, ap, subst, _∙_}
-use mathlib.Core.List.{List, _++_}
-use mathlib.Core.Logic.{_↔_}
+use mathlib.Core.List.{List}
 use Prim.Native.Nat.{ℕ}
 use lib.Dec.{T}
 use lib.ListN.{length, drop}
@@ -17,7 +16,7 @@ use Rattle.refusals.proofs.Table.{refuses-in-order}
 use Rattle.refusals.proofs.Fronts.{front-written, fronts-same}
 use Rattle.cyclic.proofs.Formats.{factsOf}
 use Rattle.telegrams.specs.Telegram.{telegramOf}
-use Rattle.telegrams.specs.Fields.{scramblingOf, shapingOf, userBitsOf, allWords, wellFormed}
+use Rattle.telegrams.specs.Fields.{allWords, wellFormed}
 use Rattle.telegrams.proofs.Made.{length-made, scrambling-made, shaping-made, userBits-made}
 use Rattle.telegrams.proofs.WellFormed.{parts, remade, made-by-words}
 use Rattle.maker.specs.declared.Made.{Made}
@@ -53,7 +52,7 @@ module _ (u : List ℕ) (B esb : ℕ) (out : List ℕ) where
       picked ((in-order, subst T (sym (words-formed (formatOf u))) words), whole)
 
   -- and the other way
-  makes : (format : Format) → InOrder format u B esb out → T (wellFormed (numbersOf format) (telegramOf (numbersOf format) u B esb))
+  pub makes : (format : Format) → InOrder format u B esb out → T (wellFormed (numbersOf format) (telegramOf (numbersOf format) u B esb))
       → makeOf u B esb out ≡ wrote format (telegramOf (numbersOf format) u B esb) out
   makes format in-order formed = telegram-made format u B esb out in-order (is-true _ (subst T (words-formed format) formed))
 
