@@ -1,6 +1,6 @@
-//! The second program: document 01, as document 02, No. 5 and No. 2, amends it,
-//! written down once more, plainly, so that the main program can be compared
-//! with it.
+//! The second program: document 01, as document 02, No. 5, No. 2 and No. 11,
+//! amends it, written down once more, plainly, so that the main program can be
+//! compared with it.
 //! Bits are held one to a byte, 0 or 1, earliest sent first.
 
 pub mod appendices;
@@ -12,6 +12,7 @@ pub mod cyclic;
 pub mod encode;
 pub mod format;
 pub mod made;
+pub mod make;
 pub mod random;
 pub mod read;
 pub mod refusal;
@@ -24,4 +25,5 @@ pub use capture::{search, stretch, Found, CAPTURE_LIMIT};
 pub use check::check;
 pub use encode::{encode, encode_skipping, Encoded, Refused};
 pub use format::Format;
+pub use make::make;
 pub use read::{read, read_well_formed, Reading};

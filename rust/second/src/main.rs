@@ -1,43 +1,76 @@
 //! The second program on standard input: `second encode`, `check`, `read`,
-//! `read-well-formed` or `capture`. It reads characters 0 and 1, skipping bytes
-//! 10 and 13, and writes what the main programs write (document 01, the capture
-//! program); of a bad text a line on standard error says what is wrong.
+//! `read-well-formed`, `capture`, or `make B ESB`. It reads characters 0 and 1,
+//! skipping bytes 10 and 13, and writes what the main programs write (document
+//! 01, the capture program; document 02, No. 11); of a bad text, or an argument
+//! of `make` that is no number, a line on standard error says what is wrong.
 
 use second::bits::{first_fault, of_text, text, Fault};
 use second::format::Format;
-use second::{check, encode, read, read_well_formed, search, Reading, CAPTURE_LIMIT};
+use second::{check, encode, make, read, read_well_formed, search, Reading, CAPTURE_LIMIT};
+use std::ffi::OsString;
 use std::io::{self, Read, Write};
 use std::{env, process};
 
+/// The lines after the second, from the bits.
+type Answer = Box<dyn Fn(&[u8]) -> String>;
+
 fn main() -> io::Result<()> {
-    let kind = env::args().nth(1).unwrap_or_default();
-    let (limit, answer): (usize, fn(&[u8]) -> String) = match kind.as_str() {
-        "encode" => (Format::Long.user_bits(), encoded),
-        "check" => (Format::Long.telegram_bits(), checked),
-        "read" => (Format::Long.window_bits(), window_read),
-        "read-well-formed" => (Format::Long.window_bits(), well_formed_read),
-        "capture" => (CAPTURE_LIMIT, captured),
+    let mut arguments = env::args_os().skip(1);
+    let kind = arguments.next().unwrap_or_default();
+    let kind = kind.to_string_lossy();
+    let (limit, answer): (usize, Result<Answer, String>) = match &*kind {
+        "encode" => (Format::Long.user_bits(), Ok(Box::new(encoded))),
+        "check" => (Format::Long.telegram_bits(), Ok(Box::new(checked))),
+        "read" => (Format::Long.window_bits(), Ok(Box::new(window_read))),
+        "read-well-formed" => (Format::Long.window_bits(), Ok(Box::new(well_formed_read))),
+        "capture" => (CAPTURE_LIMIT, Ok(Box::new(captured))),
+        "make" => (Format::Long.user_bits(), making(arguments)),
         _ => {
-            eprintln!("usage: second encode | check | read | read-well-formed | capture");
+            eprintln!(
+                "usage: second encode | check | read | read-well-formed | capture | make B ESB"
+            );
             process::exit(2);
         }
     };
-    let mut input = Vec::new();
-    let read = io::stdin().read_to_end(&mut input);
-    let wrong = match (first_fault(&input, limit), read) {
-        (Some(Fault::Character { byte, place }), _) => format!("character {byte} at byte {place}"),
-        (Some(Fault::Limit), _) => format!("more than {limit} bits"),
-        (None, Err(_)) => String::from("the input cannot be read"),
-        (None, Ok(_)) => String::new(),
-    };
-    let lines = match of_text(&input) {
-        Some(bits) if wrong.is_empty() => format!("bits {}\n{}", bits.len(), answer(&bits)),
-        _ => {
+    let lines = match answer.and_then(|answer| Ok((answer, input(limit)?))) {
+        Ok((answer, bits)) => format!("bits {}\n{}", bits.len(), answer(&bits)),
+        Err(wrong) => {
             eprintln!("balise: {wrong}");
             String::from("bad\n")
         }
     };
     io::stdout().write_all(format!("balise {kind} 1\n{lines}").as_bytes())
+}
+
+/// The bits of standard input, or what is wrong with it.
+fn input(limit: usize) -> Result<Vec<u8>, String> {
+    let mut input = Vec::new();
+    let read = io::stdin().read_to_end(&mut input);
+    match first_fault(&input, limit) {
+        Some(Fault::Character { byte, place }) => Err(format!("character {byte} at byte {place}")),
+        Some(Fault::Limit) => Err(format!("more than {limit} bits")),
+        None => read
+            .ok()
+            .and_then(|_| of_text(&input))
+            .ok_or(String::from("the input cannot be read")),
+    }
+}
+
+/// The number that an argument of one to nine decimal digits gives.
+fn number(argument: Option<OsString>) -> Option<u64> {
+    let argument = argument?;
+    let digits = argument.as_encoded_bytes();
+    let fits = (1..=9).contains(&digits.len()) && digits.iter().all(u8::is_ascii_digit);
+    let value = |number, digit: &u8| 10 * number + u64::from(digit - b'0');
+    fits.then(|| digits.iter().fold(0, value))
+}
+
+/// The answer of `make` for its two arguments, or which of them is no number.
+fn making(mut arguments: impl Iterator<Item = OsString>) -> Result<Answer, String> {
+    let b = number(arguments.next()).ok_or("the first argument must be B, one to nine digits")?;
+    let esb =
+        number(arguments.next()).ok_or("the second argument must be esb, one to nine digits")?;
+    Ok(Box::new(move |block: &[u8]| made(block, b, esb)))
 }
 
 fn encoded(block: &[u8]) -> String {
@@ -56,6 +89,18 @@ fn encoded(block: &[u8]) -> String {
     }
 }
 
+fn made(block: &[u8], b: u64, esb: u64) -> String {
+    let mut output = [0; Format::Long.telegram_bits()];
+    match make(block, b, esb, &mut output) {
+        Ok(format) => format!(
+            "{} sb {b} esb {esb}\n{}\n",
+            format.name(),
+            text(&output[..format.telegram_bits()])
+        ),
+        Err(number) => format!("refused {number}\n"),
+    }
+}
+
 fn checked(telegram: &[u8]) -> String {
     match check(telegram) {
         Ok(format) => format!("{} proper\n", format.name()),
@@ -63,14 +108,17 @@ fn checked(telegram: &[u8]) -> String {
     }
 }
 
-/// The turn, B and upright or flipped of a reading.
+/// The turn, B, upright or flipped, and esb of a reading.
 fn facts(reading: &Reading) -> String {
     let way = if reading.flipped {
         "flipped"
     } else {
         "upright"
     };
-    format!("turn {} sb {} {way}", reading.turn, reading.b)
+    format!(
+        "turn {} sb {} {way} esb {}",
+        reading.turn, reading.b, reading.esb
+    )
 }
 
 fn window_read(window: &[u8]) -> String {

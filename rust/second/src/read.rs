@@ -1,5 +1,5 @@
 //! Reading a window (document 01, "Search, reading and place"; document 02,
-//! No. 2).
+//! No. 2 and, for the extra shaping bits, No. 11).
 
 use crate::bits::{all_bits, bits_of, flip, turn_right};
 use crate::conditions::failing_conditions;
@@ -7,7 +7,7 @@ use crate::cyclic::{remainder_by_f, remainder_by_g, turn_of_remainder};
 use crate::format::Format;
 use crate::refusal;
 use crate::scrambling::{descramble, restore_first};
-use crate::telegram::{b_of, control, CONTROL};
+use crate::telegram::{b_of, control, esb_of, CONTROL};
 use crate::words::{self, WORD_BITS};
 
 /// What a window says besides the user bits.
@@ -17,6 +17,7 @@ pub struct Reading {
     pub b: u16,
     pub turn: usize,
     pub flipped: bool,
+    pub esb: u16,
 }
 
 /// What is asked of the telegram in a window.
@@ -86,6 +87,7 @@ pub fn read_bits(window: &[u8], format: Format, asked: Asked) -> Result<(Reading
         b: b_of(&telegram, format),
         turn,
         flipped,
+        esb: esb_of(&telegram, format),
     };
     Ok((reading, user))
 }

@@ -1,4 +1,5 @@
-//! The numbers of document 01's list, "When the bench says no".
+//! The numbers of document 01's list, "When the bench says no", and of document
+//! 02.
 
 /// The length fits no format, or a capture is over the limit.
 pub const LENGTH: u8 = 1;
@@ -26,3 +27,5 @@ pub const PERIOD: u8 = 11;
 pub const THINNED: u8 = 12;
 /// No place of a capture accepts.
 pub const NO_PLACE: u8 = 13;
+/// B is over 4095 or esb over 1023 (document 02, No. 11).
+pub const PAIR_TOO_LARGE: u8 = 27;

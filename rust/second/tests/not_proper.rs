@@ -9,7 +9,7 @@ use second::conditions::{
 use second::format::{Format, FORMATS};
 use second::read::{read_bits, user_bits_of, Asked};
 use second::rings::other_steps_hold;
-use second::telegram::{b_of, cut, well_formed};
+use second::telegram::{b_of, cut, esb_of, well_formed};
 use second::{check, Reading};
 
 /// The telegrams of a format of which just the conditions with these refusals
@@ -73,6 +73,7 @@ fn windows() {
                     b: b_of(telegram, format),
                     turn,
                     flipped,
+                    esb: esb_of(telegram, format),
                 };
                 let proper = read_bits(&window, format, Asked::Proper);
                 assert_eq!(proper, Err(number));

@@ -6,28 +6,30 @@ use std::process::{Command, Stdio};
 use second::appendices::well_formed_not_proper;
 use second::bits::text;
 use second::read::user_bits_of;
-use second::telegram::{b_of, cut};
+use second::telegram::{b_of, cut, esb_of};
 use second::{check, encode_skipping, Format};
 
-/// What the program writes to standard output and to standard error.
-fn written(kind: &str, input: &str) -> [String; 2] {
+/// What the program writes to standard output and to standard error. The words
+/// are its arguments.
+fn written(words: &str, input: &str) -> [String; 2] {
     let mut child = Command::new(env!("CARGO_BIN_EXE_second"))
-        .arg(kind)
+        .args(words.split(' '))
         .stdin(Stdio::piped())
         .stdout(Stdio::piped())
         .stderr(Stdio::piped())
         .spawn()
         .unwrap();
     let mut stdin = child.stdin.take().unwrap();
-    stdin.write_all(input.as_bytes()).unwrap();
+    // a program that does not read its input may be gone before it is written
+    let _ = stdin.write_all(input.as_bytes());
     drop(stdin);
     let output = child.wait_with_output().unwrap();
     [output.stdout, output.stderr].map(|bytes| String::from_utf8(bytes).unwrap())
 }
 
 /// What the program writes to standard output on a good text.
-fn run(kind: &str, input: &str) -> String {
-    let [output, error] = written(kind, input);
+fn run(words: &str, input: &str) -> String {
+    let [output, error] = written(words, input);
     assert_eq!(error, "");
     output
 }
@@ -42,13 +44,15 @@ fn capture_of_zeros() {
 
 #[test]
 fn bad_input() {
-    for (kind, limit) in [
+    for (words, limit) in [
         ("encode", 830),
         ("check", 1023),
         ("read", 1100),
         ("read-well-formed", 1100),
         ("capture", 7500),
+        ("make 18 5", 830),
     ] {
+        let kind = words.split(' ').next().unwrap();
         let full = "0".repeat(limit);
         let other = String::from("balise: character 32 at byte 2\n");
         let more = format!("balise: more than {limit} bits\n");
@@ -62,9 +66,9 @@ fn bad_input() {
             ),
         ] {
             let bad = format!("balise {kind} 1\nbad\n");
-            assert_eq!(written(kind, input), [bad, line]);
+            assert_eq!(written(words, input), [bad, line]);
         }
-        run(kind, &full);
+        run(words, &full);
     }
 }
 
@@ -72,6 +76,18 @@ fn bad_input() {
 fn refused() {
     assert_eq!(run("encode", "01"), "balise encode 1\nbits 2\nrefused 1\n");
     assert_eq!(run("check", "01"), "balise check 1\nbits 2\nrefused 1\n");
+    assert_eq!(run("make 18 5", "01"), "balise make 1\nbits 2\nrefused 1\n");
+    for (words, number) in [
+        ("make 4096 5", 27),
+        ("make 18 1024", 27),
+        ("make 999999999 999999999", 27),
+        ("make 18 5", 9),
+    ] {
+        assert_eq!(
+            run(words, &"0".repeat(210)),
+            format!("balise make 1\nbits 210\nrefused {number}\n")
+        );
+    }
     for kind in ["read", "read-well-formed"] {
         assert_eq!(
             run(kind, &"0".repeat(462)),
@@ -102,7 +118,7 @@ fn accepted() {
         assert_eq!(
             run(kind, &text(&window)),
             format!(
-                "balise {kind} 1\nbits 462\nshort turn 12 sb {b} flipped\n{}\n",
+                "balise {kind} 1\nbits 462\nshort turn 12 sb {b} flipped esb {esb}\n{}\n",
                 text(&user)
             )
         );
@@ -110,19 +126,28 @@ fn accepted() {
     assert_eq!(
         run("capture", &text(&window)),
         format!(
-            "balise capture 1\nbits 462\nshort place 0 turn 12 sb {b} flipped\n{}\n",
+            "balise capture 1\nbits 462\nshort place 0 turn 12 sb {b} flipped esb {esb}\n{}\n",
             text(&user)
+        )
+    );
+    assert_eq!(
+        run(&format!("make {b} {esb}"), &text(&user)),
+        format!(
+            "balise make 1\nbits 210\nshort sb {b} esb {esb}\n{}\n",
+            text(&telegram)
         )
     );
 }
 
 /// Well-formed and not proper: read refuses the window and the search does not
-/// find it, and read-well-formed reads it.
+/// find it, and read-well-formed reads it; make makes the telegram again.
 #[test]
 fn not_proper() {
     for telegram in well_formed_not_proper() {
         let format = Format::of_telegram(telegram.len()).unwrap();
         let number = check(&telegram).unwrap_err();
+        let (b, esb) = (b_of(&telegram, format), esb_of(&telegram, format));
+        let user = text(&user_bits_of(&telegram, format).unwrap());
         let window = cut(&telegram, 7, format.window_bits(), false);
         let (bits, window) = (window.len(), text(&window));
         assert_eq!(
@@ -136,11 +161,64 @@ fn not_proper() {
         assert_eq!(
             run("read-well-formed", &window),
             format!(
-                "balise read-well-formed 1\nbits {bits}\n{} turn 7 sb {} upright\n{}\n",
+                "balise read-well-formed 1\nbits {bits}\n{} turn 7 sb {b} upright esb {esb}\n{user}\n",
                 format.name(),
-                b_of(&telegram, format),
-                text(&user_bits_of(&telegram, format).unwrap())
             )
         );
+        assert_eq!(
+            run(&format!("make {b} {esb}"), &user),
+            format!(
+                "balise make 1\nbits {}\n{} sb {b} esb {esb}\n{}\n",
+                format.user_bits(),
+                format.name(),
+                text(&telegram)
+            )
+        );
+    }
+}
+
+/// The arguments of make, B first, are tested before the text. What comes after
+/// them is not looked at.
+#[test]
+fn arguments_of_make() {
+    let bad = |which: &str| {
+        [
+            String::from("balise make 1\nbad\n"),
+            format!("balise: the {which}, one to nine digits\n"),
+        ]
+    };
+    let no_numbers = [
+        "",
+        "-1",
+        "+1",
+        "1x",
+        "x1",
+        "1.0",
+        "0x1",
+        "1\n",
+        "1234567890",
+        "\u{661}",
+    ];
+    for word in no_numbers {
+        for other in no_numbers.into_iter().chain(["5"]) {
+            let first = written(&format!("make {word} {other}"), "x");
+            assert_eq!(first, bad("first argument must be B"));
+        }
+        let second = written(&format!("make 18 {word}"), "x");
+        assert_eq!(second, bad("second argument must be esb"));
+    }
+    assert_eq!(written("make", "x"), bad("first argument must be B"));
+    assert_eq!(written("make 18", "x"), bad("second argument must be esb"));
+    let zeros = text(&[0; 210]);
+    let mut telegram = [0; 341];
+    let encoded = encode_skipping(&[0; 210], &mut telegram).unwrap();
+    let (b, esb) = (encoded.b, encoded.esb);
+    let answer = run(&format!("make {b} {esb}"), &zeros);
+    for words in [
+        format!("make {b:09} {esb:09}"),
+        format!("make {b:03} {esb:05} x"),
+        format!("make {b} {esb} -1 "),
+    ] {
+        assert_eq!(run(&words, &zeros), answer);
     }
 }

@@ -86,6 +86,7 @@ fn every_turn_reads_back() {
                         b: encoded.b,
                         turn,
                         flipped,
+                        esb: encoded.esb,
                     };
                     for read in [read, read_well_formed] {
                         let mut output = vec![9; format.user_bits() + 1];

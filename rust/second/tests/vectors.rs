@@ -66,6 +66,7 @@ fn telegrams_read() {
                 b: b_of(&telegram, format),
                 turn,
                 flipped,
+                esb: esb_of(&telegram, format),
             };
             for asked in [Asked::Proper, Asked::WellFormed] {
                 let read = read_bits(&window, format, asked);
