@@ -35,6 +35,21 @@ extern "C" {
 uint64_t balise_encode(const uint8_t *block, size_t block_len, uint8_t *output,
                        size_t output_len);
 
+/* Makes the well-formed telegram of a block of BALISE_USER_BITS, the scrambling
+ * bits b and the extra shaping bits esb, without a search. With the user bits,
+ * BALISE_READ_B and BALISE_READ_ESB of a reading it is the telegram that was
+ * read: cut at BALISE_READ_TURN, and flipped if BALISE_READ_FLIPPED, it is the
+ * window's first 1023 or 341 bits. Whether it is proper, balise_check says.
+ * block: 830 or 210 bits. output: at least 1023 or 341 bytes; the telegram goes
+ * into its front, and the rest is kept. A refusal keeps every byte.
+ * Answer: number, format.
+ * Refusals: 1, 2, 27, 3, 9. They are tested in this order, not in that of their
+ * numbers. 27: b is over 4095 or esb over 1023, by however much; a negative
+ * number, converted, is too large. 9: a word of the telegram, the last ten
+ * included, is not in the table; most pairs give this. */
+uint64_t balise_make(const uint8_t *block, size_t block_len, uint64_t b, uint64_t esb,
+                     uint8_t *output, size_t output_len);
+
 /* Checks a telegram of 1023 or 341 bits.
  * Answer: number, format.
  * Refusals: 1, 2, 6 to 12. */
@@ -43,7 +58,7 @@ uint64_t balise_check(const uint8_t *telegram, size_t telegram_len);
 /* Reads a window of 1100 or 462 bits of a proper telegram.
  * output: at least 830 or 210 bytes; the user bits go into its front, and the
  * rest is kept. A refusal keeps every byte.
- * Answer: number, format, BALISE_READ_FLIPPED, _B and _TURN.
+ * Answer: number, format, BALISE_READ_FLIPPED, _B, _TURN and _ESB.
  * Refusals: 1, 2, 3, 5 to 12. With 10, 11 and 12 the telegram in the window is
  * well-formed and not fit to burn. */
 uint64_t balise_read(const uint8_t *window, size_t window_len, uint8_t *output,
@@ -87,10 +102,12 @@ uint64_t balise_search(const uint8_t *capture, size_t capture_len);
 #define BALISE_ENCODED_COUNT(answer) ((uint32_t)((uint64_t)(answer) >> 31 & 0x7fffff))
 
 /* balise_read, balise_read_well_formed and balise_search: whether the window is
- * flipped (1), the scrambling bits, and the turn. */
+ * flipped (1), the scrambling bits, the turn, and the extra shaping bits. The bits
+ * of these last were 0 in earlier versions; no other field moved. */
 #define BALISE_READ_FLIPPED(answer) ((unsigned)((uint64_t)(answer) >> 9 & 1))
 #define BALISE_READ_B(answer) ((unsigned)((uint64_t)(answer) >> 10 & 0xfff))
 #define BALISE_READ_TURN(answer) ((unsigned)((uint64_t)(answer) >> 22 & 0x3ff))
+#define BALISE_READ_ESB(answer) ((unsigned)((uint64_t)(answer) >> 48 & 0x3ff))
 
 /* balise_search. */
 #define BALISE_PLACE(answer) ((size_t)((uint64_t)(answer) >> 32 & 0xffff))
@@ -102,20 +119,22 @@ uint64_t balise_search(const uint8_t *capture, size_t capture_len);
 #define BALISE_WINDOW_BITS(format) ((format) == BALISE_LONG ? 1100 : 462)
 #define BALISE_CAPTURE_LIMIT 7500
 
-/* ---- refusals: the lowest that applies, as BALISE_NUMBER gives it */
+/* ---- refusals, as BALISE_NUMBER gives them: the lowest that applies, except that
+ * balise_make tests 27 before 3 */
 
-#define BALISE_REFUSED_LENGTH 1        /* the length fits no format, or is over the limit */
-#define BALISE_REFUSED_NOT_BIT 2       /* a byte other than 0 or 1 */
-#define BALISE_REFUSED_OUTPUT_SHORT 3  /* the output is too short */
-#define BALISE_REFUSED_NO_PAIR 4       /* no pair gives a proper telegram */
-#define BALISE_REFUSED_ENDS_DIFFER 5   /* the ends of the window differ */
-#define BALISE_REFUSED_NOT_DIVISIBLE 6 /* not divisible by g */
-#define BALISE_REFUSED_NO_TURN 7       /* no turn has this remainder; in check, not turn 0 */
-#define BALISE_REFUSED_CONTROL 8       /* the control bits are not 0, 0, 1 */
-#define BALISE_REFUSED_NOT_WORD 9      /* a word is not in the table */
-#define BALISE_REFUSED_OFF_STEP 10     /* condition 2 fails */
-#define BALISE_REFUSED_REPEATING 11    /* condition 3 fails */
-#define BALISE_REFUSED_THINNED 12      /* condition 4 fails */
-#define BALISE_REFUSED_NO_PLACE 13     /* no place of the capture reads */
+#define BALISE_REFUSED_LENGTH 1          /* the length fits no format, or is over the limit */
+#define BALISE_REFUSED_NOT_BIT 2         /* a byte other than 0 or 1 */
+#define BALISE_REFUSED_OUTPUT_SHORT 3    /* the output is too short */
+#define BALISE_REFUSED_NO_PAIR 4         /* no pair gives a proper telegram */
+#define BALISE_REFUSED_ENDS_DIFFER 5     /* the ends of the window differ */
+#define BALISE_REFUSED_NOT_DIVISIBLE 6   /* not divisible by g */
+#define BALISE_REFUSED_NO_TURN 7         /* no turn has this remainder; in check, not turn 0 */
+#define BALISE_REFUSED_CONTROL 8         /* the control bits are not 0, 0, 1 */
+#define BALISE_REFUSED_NOT_WORD 9        /* a word is not in the table */
+#define BALISE_REFUSED_OFF_STEP 10       /* condition 2 fails */
+#define BALISE_REFUSED_REPEATING 11      /* condition 3 fails */
+#define BALISE_REFUSED_THINNED 12        /* condition 4 fails */
+#define BALISE_REFUSED_NO_PLACE 13       /* no place of the capture reads */
+#define BALISE_REFUSED_PAIR_TOO_LARGE 27 /* B is over 4095 or esb over 1023 */
 
 #endif

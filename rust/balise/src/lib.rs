@@ -20,6 +20,11 @@
 //! assert_eq!((reading.b, reading.turn), (encoded.b, 200));
 //! assert_eq!(user[..reading.format.user_bits()], block);
 //! assert_eq!(balise::read(&window[1..], &mut user), Err(Refusal::Length));
+//!
+//! let user = &user[..reading.format.user_bits()];
+//! let mut again = [0; MAX_TELEGRAM_BITS];
+//! let format = balise::make(user, reading.b.into(), reading.esb.into(), &mut again)?;
+//! assert_eq!(again[..format.telegram_bits()], *telegram);
 //! # Ok::<(), Refusal>(())
 //! ```
 //!
@@ -39,6 +44,14 @@ mod exported {
         pub fn balise_encode(
             block: *const u8,
             block_len: usize,
+            output: *mut u8,
+            output_len: usize,
+        ) -> u64;
+        pub fn balise_make(
+            block: *const u8,
+            block_len: usize,
+            b: u64,
+            esb: u64,
             output: *mut u8,
             output_len: usize,
         ) -> u64;
@@ -81,6 +94,8 @@ pub struct Reading {
     pub turn: usize,
     /// Whether all bits of the window are flipped.
     pub flipped: bool,
+    /// The extra shaping bits.
+    pub esb: u16,
 }
 
 /// The first place of a capture at which a window is read.
@@ -118,21 +133,25 @@ impl Answer {
         }
     }
 
-    /// What read and search share.
+    /// The fields of a window's answer are those of a search; the place is 0.
     fn reading(&mut self) -> Reading {
-        let format = self.format();
-        let flipped = self.take(1) == 1;
-        Reading {
-            format,
-            b: self.take(12) as u16,
-            turn: self.take(10) as usize,
-            flipped,
-        }
+        self.found().reading
     }
 
     fn found(&mut self) -> Found {
-        let reading = self.reading();
+        let format = self.format();
+        let flipped = self.take(1) == 1;
+        let b = self.take(12) as u16;
+        let turn = self.take(10) as usize;
         let place = self.take(16) as usize;
+        let esb = self.take(10) as u16;
+        let reading = Reading {
+            format,
+            b,
+            turn,
+            flipped,
+            esb,
+        };
         Found { place, reading }
     }
 
@@ -180,6 +199,34 @@ fn answer(call: WithOutput, input: &[u8], output: &mut [u8]) -> Answer {
 /// Refuses with `Length`, `NotBit`, `OutputShort` and `NoPair`.
 pub fn encode(block: &[u8], output: &mut [u8]) -> Result<Encoded, Refusal> {
     answer(exported::balise_encode, block, output).result(Answer::encoded)
+}
+
+/// Makes the well-formed telegram of a block of [`Format::user_bits`], 830 or 210,
+/// the scrambling bits `b` and the extra shaping bits `esb`, without a search. It
+/// goes into the front of `output`, which needs room for
+/// [`Format::telegram_bits`], 1023 or 341; [`MAX_TELEGRAM_BITS`] is enough for
+/// both. A refusal keeps every byte. With the user bits that a window call wrote,
+/// and `b` and `esb` of its [`Reading`], it is the telegram that was read. Whether
+/// it is proper, [`check`] says.
+///
+/// Refuses, tested in this order, with `Length`, `NotBit`, `PairTooLarge` where
+/// `b` is over 4095 or `esb` over 1023, `OutputShort`, and `NotWord` where a word
+/// of the telegram, the last ten included, is not in the table: so with most
+/// pairs.
+pub fn make(block: &[u8], b: u64, esb: u64, output: &mut [u8]) -> Result<Format, Refusal> {
+    // SAFETY: the pointers and lengths are those of slices that do not overlap,
+    // and the contract asks nothing.
+    let answer = Answer(unsafe {
+        exported::balise_make(
+            block.as_ptr(),
+            block.len(),
+            b,
+            esb,
+            output.as_mut_ptr(),
+            output.len(),
+        )
+    });
+    answer.result(Answer::format)
 }
 
 /// The format of a proper telegram, of [`Format::telegram_bits`], 1023 or 341.

@@ -1,8 +1,9 @@
-//! The refusals (document 01, "When the bench says no").
+//! The refusals (document 01, "When the bench says no"; document 02, No. 11).
 
 use std::fmt;
 
-/// Why a call refuses. Of several reasons it is the one with the lowest number.
+/// Why a call refuses. Of several reasons it is the one with the lowest number;
+/// but [`make`](crate::make) tests `PairTooLarge` before `OutputShort`.
 #[derive(Clone, Copy, Debug, PartialEq, Eq, Hash)]
 #[non_exhaustive]
 pub enum Refusal {
@@ -32,13 +33,15 @@ pub enum Refusal {
     Thinned,
     /// No place of a capture reads.
     NoPlace,
+    /// B is over 4095 or esb over 1023.
+    PairTooLarge,
     /// A number of the library's that has no name here.
     Other(u8),
 }
 
 impl Refusal {
     /// Every refusal with a name, by number. What one carries is 0 here.
-    pub const ALL: [Refusal; 13] = [
+    pub const ALL: [Refusal; 14] = [
         Refusal::Length,
         Refusal::NotBit,
         Refusal::OutputShort,
@@ -52,6 +55,7 @@ impl Refusal {
         Refusal::Repeating,
         Refusal::Thinned,
         Refusal::NoPlace,
+        Refusal::PairTooLarge,
     ];
 
     /// The number, and the words of the table in docs/BENCH.md.
@@ -78,11 +82,12 @@ impl Refusal {
             Refusal::Repeating => (11, "the telegram repeats itself a third of the way round"),
             Refusal::Thinned => (12, "thinned words run too long"),
             Refusal::NoPlace => (13, "no place in the recording reads"),
+            Refusal::PairTooLarge => (27, "B is over 4095 or esb over 1023"),
             Refusal::Other(number) => (number, "a refusal without a name"),
         }
     }
 
-    /// The number of document 01's list.
+    /// The number of document 01's list, or of document 02.
     pub const fn number(self) -> u8 {
         self.row().0
     }

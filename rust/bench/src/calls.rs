@@ -1,11 +1,12 @@
 //! The public calls against the second program's.
 
 use crate::{heading, microseconds, plain, row, set, timed, timed_row, INPUTS, SETS};
-use balise::{Refusal, MAX_USER_BITS};
+use balise::{Refusal, MAX_TELEGRAM_BITS, MAX_USER_BITS};
 use second::format::{Format, FORMATS};
 use second::made::random_telegrams;
 use second::random::Random;
-use second::telegram::cut;
+use second::read::user_bits_of;
+use second::telegram::{b_of, cut, esb_of};
 use second::Reading;
 use std::fmt::Debug;
 use std::hint::black_box;
@@ -82,6 +83,55 @@ fn check_row(random: &mut Random, proper: &[Vec<u8>], format: Format) {
         }
     };
     let name = format!("check, {}", format.name());
+    timed_row(&name, INPUTS, "1.5", ours, plain);
+}
+
+/// What a telegram is made of.
+struct Made {
+    block: Vec<u8>,
+    b: u64,
+    esb: u64,
+}
+
+/// One of the sides of make.
+type Make<T, E> = fn(&[u8], u64, u64, &mut [u8]) -> Result<T, E>;
+
+/// One of the sides of make on a set of blocks.
+fn making<'a, T: 'a, E: Debug + 'a>(
+    call: Make<T, E>,
+    inputs: &'a [Made],
+) -> impl FnMut(usize) + 'a {
+    let mut out = [0; MAX_TELEGRAM_BITS];
+    move |i| {
+        for Made { block, b, esb } in set(inputs, i) {
+            let answer = call(black_box(block), black_box(*b), black_box(*esb), &mut out);
+            black_box(answer).expect("a telegram");
+            black_box(&out);
+        }
+    }
+}
+
+/// Prints the row of making for a format: each telegram from its user bits and
+/// its pair. Plain Rust and the second program make the same.
+fn make_row(random: &mut Random, proper: &[Vec<u8>], format: Format) {
+    let inputs: Vec<Made> = (0..SETS * INPUTS)
+        .map(|_| {
+            let telegram = &proper[random.below(TELEGRAMS)];
+            Made {
+                block: user_bits_of(telegram, format).expect("user bits"),
+                b: b_of(telegram, format).into(),
+                esb: esb_of(telegram, format).into(),
+            }
+        })
+        .collect();
+    let (mut plain_out, mut second_out) = ([0; MAX_TELEGRAM_BITS], [0; MAX_TELEGRAM_BITS]);
+    for Made { block, b, esb } in set(&inputs, 0) {
+        let expected = second::make(block, *b, *esb, &mut second_out);
+        assert_eq!(plain::make(block, *b, *esb, &mut plain_out), expected);
+        assert_eq!(plain_out, second_out);
+    }
+    let name = format!("make, {}", format.name());
+    let (ours, plain) = (making(balise::make, &inputs), making(plain::make, &inputs));
     timed_row(&name, INPUTS, "1.5", ours, plain);
 }
 
@@ -170,14 +220,18 @@ pub fn calls() {
     }
     println!();
     println!(
-        "Proper telegrams, and windows of them cut at any turn, half of them flipped; plain is"
+        "Proper telegrams, made of their user bits and pairs, checked, and read from windows cut"
     );
-    println!("plain Rust with the same algorithm, written for speed.");
+    println!(
+        "at any turn, half of them flipped; plain is plain Rust with the same algorithm, written"
+    );
+    println!("for speed.");
     println!();
     heading();
     let ratios = FORMATS.map(|format| {
         let proper = random_telegrams(&mut random, format, TELEGRAMS);
         check_row(&mut random, &proper, format);
+        make_row(&mut random, &proper, format);
         let inputs = windows(&mut random, &proper, format);
         read_row(&READ, &inputs, format);
         read_row(&READ_WELL_FORMED, &inputs, format);

@@ -28,7 +28,7 @@ fn inputs(random: &mut Random, length: usize) -> Vec<Vec<u8>> {
 }
 
 /// The inputs of a set.
-fn set(inputs: &[Vec<u8>], i: usize) -> &[Vec<u8>] {
+fn set<T>(inputs: &[T], i: usize) -> &[T] {
     &inputs[i * INPUTS..][..INPUTS]
 }
 

@@ -2,9 +2,9 @@
 //! divisors that the compiler knows, and no heap.
 
 use second::conditions::{off_step_limit, THINNED_RUN};
-use second::format::Format;
+use second::format::{Format, CHECK_BITS};
 use second::read::Asked;
-use second::telegram::CONTROL;
+use second::telegram::{B_VALUES, CONTROL, ESB_VALUES};
 use second::words;
 use second::{refusal, Reading};
 use std::sync::LazyLock;
@@ -41,6 +41,7 @@ pub const G: u128 = polynomial(Format::Long.g());
 pub const FG: u128 = product(F, G);
 const SHORT_F: u128 = polynomial(Format::Short.f());
 const SHORT_G: u128 = polynomial(Format::Short.g());
+const SHORT_FG: u128 = product(SHORT_F, SHORT_G);
 
 /// The remainder by a divisor that the compiler knows.
 pub fn remainder<const DIVISOR: u128>(bits: &[u8]) -> u128 {
@@ -117,11 +118,15 @@ fn write_number(number: u32, out: &mut [u8]) {
     }
 }
 
+/// The sum modulo 1024 of the blocks of ten bits.
+fn sum(bits: &[u8]) -> u32 {
+    bits.chunks_exact(10).map(number).sum::<u32>() & 1023
+}
+
 /// The first block: the replaced one minus the others.
 fn remove_sum(out: &mut [u8]) {
     let (first, others) = out.split_at_mut(10);
-    let sum: u32 = others.chunks_exact(10).map(number).sum();
-    write_number(number(first).wrapping_sub(sum) & 1023, first);
+    write_number(number(first).wrapping_sub(sum(others)) & 1023, first);
 }
 
 /// What stands in `NUMBERS` for a word that is not in the table.
@@ -182,18 +187,25 @@ fn read_as<const F: u128, const G: u128>(
     if flipped {
         telegram.iter_mut().for_each(|bit| *bit = 1 - *bit);
     }
-    let b = user_bits(format, asked, telegram, output)?;
+    let (b, esb) = user_bits(format, asked, telegram, output)?;
     Ok(Reading {
         format,
         b,
         turn,
         flipped,
+        esb,
     })
 }
 
-/// Writes the user bits of a telegram and gives its scrambling bits, or
-/// refusal 8 or 9, or 10 to 12 where a proper telegram is asked for.
-fn user_bits(format: Format, asked: Asked, telegram: &[u8], output: &mut [u8]) -> Result<u16, u8> {
+/// Writes the user bits of a telegram and gives its scrambling bits and extra
+/// shaping bits, or refusal 8 or 9, or 10 to 12 where a proper telegram is asked
+/// for.
+fn user_bits(
+    format: Format,
+    asked: Asked,
+    telegram: &[u8],
+    output: &mut [u8],
+) -> Result<(u16, u16), u8> {
     let (_, fields) = telegram.split_at(format.shaped_bits());
     if fields[..3] != CONTROL {
         return Err(refusal::CONTROL);
@@ -215,7 +227,68 @@ fn user_bits(format: Format, asked: Asked, telegram: &[u8], output: &mut [u8]) -
     let b = number(&fields[3..15]);
     descramble(b, &scrambled[..format.user_bits()], output);
     remove_sum(output);
-    Ok(b as u16)
+    Ok((b as u16, number(&fields[15..25]) as u16))
+}
+
+/// The words of the table.
+static WORDS: LazyLock<[u16; words::ENTRIES]> =
+    LazyLock::new(|| std::array::from_fn(|i| words::word(i as u16)));
+
+/// Makes a telegram, as the second program's `make`.
+pub fn make(block: &[u8], b: u64, esb: u64, output: &mut [u8]) -> Result<Format, u8> {
+    match Format::of_block(block.len()).ok_or(refusal::LENGTH)? {
+        Format::Long => make_as::<G, FG>(Format::Long, block, b, esb, output),
+        Format::Short => make_as::<SHORT_G, SHORT_FG>(Format::Short, block, b, esb, output),
+    }
+}
+
+fn make_as<const G: u128, const FG: u128>(
+    format: Format,
+    block: &[u8],
+    b: u64,
+    esb: u64,
+    output: &mut [u8],
+) -> Result<Format, u8> {
+    if block.iter().any(|&byte| byte > 1) {
+        return Err(refusal::NOT_A_BIT);
+    }
+    if b >= u64::from(B_VALUES) || esb >= u64::from(ESB_VALUES) {
+        return Err(refusal::PAIR_TOO_LARGE);
+    }
+    let output = output
+        .get_mut(..format.telegram_bits())
+        .ok_or(refusal::OUTPUT)?;
+    let mut telegram = [0; Format::Long.telegram_bits()];
+    let telegram = &mut telegram[..format.telegram_bits()];
+    let (shaped, fields) = telegram.split_at_mut(format.shaped_bits());
+    shape(b as u32, block, shaped);
+    fields[..3].copy_from_slice(&CONTROL);
+    write_number(b as u32, &mut fields[3..15]);
+    write_number(esb as u32, &mut fields[15..25]);
+    let check = remainder::<FG>(telegram) ^ G;
+    let places = telegram[format.telegram_bits() - CHECK_BITS..].iter_mut();
+    for (place, bit) in places.rev().enumerate() {
+        *bit = (check >> place & 1) as u8;
+    }
+    let last_ten = &telegram[format.shaped_bits()..];
+    if last_ten.chunks_exact(11).any(|word| !is_word(&VALID, word)) {
+        return Err(refusal::WORD);
+    }
+    output.copy_from_slice(telegram);
+    Ok(format)
+}
+
+/// Writes the shaped data of a block.
+fn shape(b: u32, block: &[u8], out: &mut [u8]) {
+    let mut replaced = [0; Format::Long.user_bits()];
+    let mut scrambled = replaced;
+    let (replaced, scrambled) = (&mut replaced[..block.len()], &mut scrambled[..block.len()]);
+    replaced.copy_from_slice(block);
+    write_number(sum(block), &mut replaced[..10]);
+    scramble(b, replaced, scrambled);
+    for (ten, word) in scrambled.chunks_exact(10).zip(out.chunks_exact_mut(11)) {
+        write_number(WORDS[number(ten) as usize].into(), word);
+    }
 }
 
 /// The place after another on a ring of n, by at most n.

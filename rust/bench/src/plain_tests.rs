@@ -1,7 +1,7 @@
-//! Plain Rust's check and window calls against the proved calls and the second
-//! program.
+//! Plain Rust's check, make and window calls against the proved calls and the
+//! second program.
 
-use crate::plain::{check, condition_2, condition_3, condition_4, read, read_well_formed};
+use crate::plain::{check, condition_2, condition_3, condition_4, make, read, read_well_formed};
 use compare::calls::{self, Tally};
 use compare::refusals::{provoking, Call};
 use compare::telegrams::*;
@@ -11,8 +11,9 @@ use second::conditions::{self, off_step_limit, unthinned, THINNED_RUN};
 use second::format::{Format, FORMATS};
 use second::made::with_stretch;
 use second::random::Random;
+use second::read::user_bits_of;
 use second::rings::{one_run, ring_of_words, runs_about, words_as};
-use second::telegram::{cut, well_formed};
+use second::telegram::{b_of, cut, esb_of, well_formed};
 use second::Reading;
 
 /// Compares plain Rust's answer with that of the proved call and of the
@@ -20,6 +21,25 @@ use second::Reading;
 fn compare_check(tally: &mut Tally, telegram: &[u8]) {
     let answer = check(telegram);
     assert_eq!(answer, calls::check(telegram));
+    tally.add(answer);
+}
+
+/// Compares plain Rust's answer and what it writes with those of the proved call
+/// and of the second program.
+fn compare_make(
+    tally: &mut Tally,
+    random: &mut Random,
+    block: &[u8],
+    (b, esb): (u64, u64),
+    room: usize,
+) {
+    let mut output = vec![9; room];
+    let answer = make(block, b, esb, &mut output);
+    let (expected, telegram) = calls::make(random, block, b, esb, room);
+    assert_eq!(answer, expected);
+    let written = answer.as_ref().map_or(0, |format| format.telegram_bits());
+    assert_eq!(output[..written], telegram[..written]);
+    assert!(output[written..].iter().all(|&byte| byte == 9));
     tally.add(answer);
 }
 
@@ -101,19 +121,34 @@ fn telegrams(random: &mut Random, format: Format) -> Vec<Vec<u8>> {
 fn answers_are_those_of_the_proved_calls() {
     let mut random = Random::new(4);
     let (mut checked, mut windows) = (Tally::default(), Windows::default());
+    let mut made = Tally::default();
     for format in FORMATS {
+        let n = format.telegram_bits();
         for telegram in telegrams(&mut random, format) {
             compare_check(&mut checked, &telegram);
+            if let Ok(user) = user_bits_of(&telegram, format) {
+                let pair = (b_of(&telegram, format), esb_of(&telegram, format));
+                let pair = (pair.0.into(), pair.1.into());
+                compare_make(&mut made, &mut random, &user, pair, n + 5);
+            }
             for flipped in [false, true] {
                 let turn = random.below(telegram.len());
                 let window = cut(&telegram, turn, format.window_bits(), flipped);
                 compare_read(&mut windows, &mut random, &window, format.user_bits());
             }
         }
+        for _ in 0..2000 {
+            let user = random.bits(format.user_bits());
+            let pair = (random.below(4096) as u64, random.below(1024) as u64);
+            compare_make(&mut made, &mut random, &user, pair, n);
+        }
     }
     for (_, call) in provoking(&mut random) {
         match call {
             Call::Check(telegram) => compare_check(&mut checked, &telegram),
+            Call::Make(block, b, esb, room) => {
+                compare_make(&mut made, &mut random, &block, (b, esb), room);
+            }
             Call::Read(window, room) | Call::ReadWellFormed(window, room) => {
                 compare_read(&mut windows, &mut random, &window, room);
             }
@@ -122,6 +157,8 @@ fn answers_are_those_of_the_proved_calls() {
     }
     checked.print("telegrams checked by plain Rust, by number");
     assert_eq!(checked.numbers(), [0, 1, 2, 6, 7, 8, 9, 10, 11, 12]);
+    made.print("telegrams made by plain Rust, by number");
+    assert_eq!(made.numbers(), [0, 1, 2, 3, 9, 27]);
     let Windows {
         proper,
         well_formed,

@@ -5,6 +5,7 @@ use balise::Refusal;
 use second::bits::{flip, turn_right};
 use second::format::Format;
 use second::random::Random;
+use second::telegram::cut;
 use second::{Encoded, Found, Reading, Refused};
 use std::collections::BTreeMap;
 
@@ -47,6 +48,7 @@ fn reading(reading: balise::Reading) -> Reading {
         b: reading.b,
         turn: reading.turn,
         flipped: reading.flipped,
+        esb: reading.esb,
     }
 }
 
@@ -116,6 +118,40 @@ pub fn encode(
     )
 }
 
+/// Makes the telegram of a block, B and esb in an output of this length: the
+/// answer and the output.
+pub fn make(
+    random: &mut Random,
+    block: &[u8],
+    b: u64,
+    esb: u64,
+    room: usize,
+) -> (Result<Format, u8>, Vec<u8>) {
+    let ours = |output: &mut [u8]| {
+        let answer = balise::make(block, b, esb, output);
+        answer.map(format).map_err(Refusal::number)
+    };
+    compared(
+        random,
+        room,
+        ours,
+        |output| second::make(block, b, esb, output),
+        |format| format.telegram_bits(),
+    )
+}
+
+/// The telegram made again from what was read (document 02, No. 11). Cut at the
+/// reading's turn, upright or flipped as it says, it is the window's first n bits.
+pub fn make_again(random: &mut Random, window: &[u8], reading: &Reading, user: &[u8]) -> Vec<u8> {
+    let n = reading.format.telegram_bits();
+    let user = &user[..reading.format.user_bits()];
+    let (answer, telegram) = make(random, user, reading.b.into(), reading.esb.into(), n);
+    assert_eq!(answer, Ok(reading.format));
+    let turned = cut(&telegram, reading.turn, n, reading.flipped);
+    assert_eq!(turned, window[..n]);
+    telegram
+}
+
 /// Checks a telegram.
 pub fn check(telegram: &[u8]) -> Result<Format, u8> {
     let answer = balise::check(telegram).map(format).map_err(Refusal::number);
@@ -154,7 +190,7 @@ pub fn read_well_formed(random: &mut Random, window: &[u8], room: usize) -> Read
 /// What both window calls answer, `read` first (document 02, No. 2). They answer
 /// and write the same, and `check` accepts the telegram in the window; or the
 /// second accepts, and the first refuses with what `check` gives for it: 10, 11
-/// or 12.
+/// or 12. The telegram that was read is made again.
 pub fn read_both(random: &mut Random, window: &[u8], room: usize) -> [Result<Reading, u8>; 2] {
     let (proper, output) = read(random, window, room);
     let (well_formed, other) = read_well_formed(random, window, room);
@@ -169,8 +205,9 @@ pub fn read_both(random: &mut Random, window: &[u8], room: usize) -> [Result<Rea
         answers => panic!("{answers:?}"),
     }
     if let Ok(reading) = well_formed {
-        let checked = check(&telegram_in(window, &reading));
-        assert_eq!(checked.err(), proper.err());
+        let telegram = telegram_in(window, &reading);
+        assert_eq!(check(&telegram).err(), proper.err());
+        assert_eq!(make_again(random, window, &reading, &other), telegram);
     }
     [proper, well_formed]
 }
@@ -186,7 +223,7 @@ fn telegram_in(window: &[u8], reading: &Reading) -> Vec<u8> {
 }
 
 /// Searches a capture; the stretch is the window found, in the capture itself,
-/// and both window calls read it as the search says.
+/// and both window calls read it as the search says. Its telegram is made again.
 pub fn search(random: &mut Random, capture: &[u8]) -> Result<Found, u8> {
     let second = second::search(capture);
     let stretch = balise::stretch(capture);
@@ -201,6 +238,7 @@ pub fn search(random: &mut Random, capture: &[u8]) -> Result<Found, u8> {
                 assert_eq!(answer.as_ref(), Ok(&found.reading));
                 assert_eq!(user, found.user);
             }
+            make_again(random, stretch, &found.reading, &found.user);
         }
         (Err(refusal), Err(other)) => {
             assert_eq!(refusal.number(), *other);

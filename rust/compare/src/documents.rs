@@ -1,7 +1,7 @@
 //! What the repository's pages and its C header say of the refusals.
 
 use crate::programs::repository;
-use std::collections::{BTreeMap, BTreeSet};
+use std::collections::BTreeMap;
 use std::fs;
 
 /// The text of a file of the repository.
@@ -53,8 +53,8 @@ pub fn header_refusals() -> BTreeMap<String, u8> {
     numbers
 }
 
-/// The refusals that include/balise.h lists for a call, by number.
-pub fn header_list(call: &str) -> BTreeSet<u8> {
+/// The refusals that include/balise.h lists for a call, in the order listed.
+pub fn header_list(call: &str) -> Vec<u8> {
     let header = document("include/balise.h");
     let declaration = format!("uint64_t balise_{call}(");
     let (before, _) = header.split_once(&declaration).expect(call);

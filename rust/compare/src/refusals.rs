@@ -1,5 +1,5 @@
 //! Inputs that provoke each refusal (document 01, "When the bench says no"; of
-//! the window calls, document 02, No. 2).
+//! the window calls, document 02, No. 2, and of make, No. 11).
 
 use crate::telegrams::*;
 use balise::Refusal;
@@ -15,6 +15,8 @@ use second::telegram::cut;
 #[derive(Clone, Debug)]
 pub enum Call {
     Encode(Vec<u8>, usize),
+    /// The block, B, esb and the room.
+    Make(Vec<u8>, u64, u64, usize),
     Check(Vec<u8>),
     Read(Vec<u8>, usize),
     ReadWellFormed(Vec<u8>, usize),
@@ -26,6 +28,7 @@ impl Call {
     pub fn name(&self) -> &'static str {
         match self {
             Call::Encode(..) => "encode",
+            Call::Make(..) => "make",
             Call::Check(..) => "check",
             Call::Read(..) => "read",
             Call::ReadWellFormed(..) => "read_well_formed",
@@ -37,6 +40,9 @@ impl Call {
     pub fn refusal(&self) -> Option<Refusal> {
         match self {
             Call::Encode(block, room) => balise::encode(block, &mut vec![0; *room]).err(),
+            Call::Make(block, b, esb, room) => {
+                balise::make(block, *b, *esb, &mut vec![0; *room]).err()
+            }
             Call::Check(telegram) => balise::check(telegram).err(),
             Call::Read(window, room) => balise::read(window, &mut vec![0; *room]).err(),
             Call::ReadWellFormed(window, room) => {
@@ -136,6 +142,34 @@ fn not_proper() -> Vec<(Refusal, Call)> {
     calls
 }
 
+/// A block with a pair that makes a telegram of it, given to make with one fault
+/// each: refusals 1, 2, 27, 3 and 9.
+fn of_make(random: &mut Random, format: Format) -> Vec<(Refusal, Call)> {
+    let n = format.telegram_bits();
+    let block = random.bits(format.user_bits());
+    let pair = encoded(&block).0;
+    let (b, esb) = (u64::from(pair.b), u64::from(pair.esb));
+    let no_word = no_telegram(&block, pair.b, format).into();
+    let longer = [&block[..], &[0]].concat();
+    vec![
+        (Refusal::Length, Call::Make(longer, b, esb, n)),
+        (
+            Refusal::NotBit,
+            Call::Make(with_no_bit(block.clone()), b, esb, n),
+        ),
+        (
+            Refusal::PairTooLarge,
+            Call::Make(block.clone(), 4096, esb, n),
+        ),
+        (Refusal::PairTooLarge, Call::Make(block.clone(), b, 1024, n)),
+        (
+            Refusal::OutputShort,
+            Call::Make(block.clone(), b, esb, n - 1),
+        ),
+        (Refusal::NotWord, Call::Make(block, b, no_word, n)),
+    ]
+}
+
 /// Every refusal, with inputs of every call that gives it.
 pub fn provoking(random: &mut Random) -> Vec<(Refusal, Call)> {
     let limit = balise::CAPTURE_LIMIT;
@@ -153,6 +187,7 @@ pub fn provoking(random: &mut Random) -> Vec<(Refusal, Call)> {
     for format in FORMATS {
         calls.extend(before_the_bits(random, format));
         calls.extend(not_well_formed(random, format));
+        calls.extend(of_make(random, format));
     }
     calls.extend(not_proper());
     calls

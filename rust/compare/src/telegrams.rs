@@ -7,14 +7,24 @@ use second::cyclic::remainder_by_g;
 use second::format::Format;
 use second::made::{bits_of_words, random_word};
 use second::random::Random;
-use second::telegram::{complete, well_formed};
+use second::telegram::{complete, make, well_formed};
 use second::words::valid;
 
-pub use second::made::{random_telegram, random_telegrams, telegram_of, with_bits, with_word};
+pub use second::made::{
+    encoded, random_telegram, random_telegrams, telegram_of, with_bits, with_word,
+};
 
 /// The kept telegrams that are well-formed and not proper.
 pub fn kept_not_proper() -> Vec<Vec<u8>> {
     [well_formed_not_proper(), only_the_ring_refuses()].concat()
+}
+
+/// The first esb that, with this B, makes no telegram of a block: a word is not
+/// in the table.
+pub fn no_telegram(block: &[u8], b: u16, format: Format) -> u16 {
+    (0..1024)
+        .find(|&esb| !well_formed(&make(block, b, esb, format), format))
+        .expect("an esb")
 }
 
 /// A word outside the table.

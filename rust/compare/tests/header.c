@@ -1,5 +1,6 @@
-/* Prints the sizes, and what the five calls answer on 462 zeros and on a capture
- * from standard input, one bit to a byte; the window calls also on all of it. */
+/* Prints the sizes, and what the six calls answer on 462 zeros and on a capture
+ * from standard input, one bit to a byte; the window calls also on all of it. What
+ * was read is made again. */
 #include "balise.h"
 
 #include <stdio.h>
@@ -7,17 +8,59 @@
 
 static void print_reading(const char *call, uint64_t answer)
 {
-    printf("%s %u %u %u %u %u\n", call, BALISE_NUMBER(answer), BALISE_FORMAT(answer),
-           BALISE_READ_B(answer), BALISE_READ_TURN(answer), BALISE_READ_FLIPPED(answer));
+    printf("%s %u %u %u %u %u %u\n", call, BALISE_NUMBER(answer), BALISE_FORMAT(answer),
+           BALISE_READ_B(answer), BALISE_READ_TURN(answer), BALISE_READ_FLIPPED(answer),
+           BALISE_READ_ESB(answer));
 }
 
-static void print_user_bits(const uint8_t *user, unsigned format)
+static void print_bits(const uint8_t *bits, int count)
 {
-    size_t i;
+    int i;
 
-    for (i = 0; i < (size_t)BALISE_USER_BITS(format); i++)
-        putchar('0' + user[i]);
+    for (i = 0; i < count; i++)
+        putchar('0' + bits[i]);
     putchar('\n');
+}
+
+/* Prints the user bits of a reading, and the telegram made again of them. */
+static void print_made(const uint8_t *user, uint64_t reading)
+{
+    uint8_t telegram[BALISE_TELEGRAM_BITS(BALISE_LONG)];
+    unsigned format = BALISE_FORMAT(reading);
+    uint64_t answer;
+
+    print_bits(user, BALISE_USER_BITS(format));
+    answer = balise_make(user, BALISE_USER_BITS(format), BALISE_READ_B(reading),
+                         BALISE_READ_ESB(reading), telegram, sizeof telegram);
+    printf("make %u %u\n", BALISE_NUMBER(answer), BALISE_FORMAT(answer));
+    print_bits(telegram, BALISE_TELEGRAM_BITS(format));
+}
+
+/* Prints what numbers that are too large, and a negative one, give. Returns 1 where
+ * one of them is not so refused, or a byte of the output is changed. */
+static int print_too_large(const uint8_t *user, uint64_t reading)
+{
+    uint8_t telegram[BALISE_TELEGRAM_BITS(BALISE_LONG)];
+    size_t m = BALISE_USER_BITS(BALISE_FORMAT(reading));
+    uint64_t b = BALISE_READ_B(reading), esb = BALISE_READ_ESB(reading);
+    uint64_t answers[4];
+    int negative = -1, i;
+    size_t j;
+
+    memset(telegram, 7, sizeof telegram);
+    answers[0] = balise_make(user, m, 4096, esb, telegram, sizeof telegram);
+    answers[1] = balise_make(user, m, b, 1024, telegram, sizeof telegram);
+    answers[2] = balise_make(user, m, (uint64_t)negative, esb, telegram, sizeof telegram);
+    answers[3] = balise_make(user, m, b, (uint64_t)1 << 32 | esb, telegram, 0);
+    for (i = 0; i < 4; i++) {
+        printf("make %u\n", BALISE_NUMBER(answers[i]));
+        if (BALISE_NUMBER(answers[i]) != BALISE_REFUSED_PAIR_TOO_LARGE)
+            return 1;
+    }
+    for (j = 0; j < sizeof telegram; j++)
+        if (telegram[j] != 7)
+            return 1;
+    return 0;
 }
 
 int main(void)
@@ -48,7 +91,7 @@ int main(void)
     answer = balise_read_well_formed(capture, length, user, sizeof user);
     print_reading("read_well_formed", answer);
     if (BALISE_NUMBER(answer) == 0)
-        print_user_bits(user, BALISE_FORMAT(answer));
+        print_made(user, answer);
     answer = balise_search(capture, length);
     print_reading("search", answer);
     printf("place %lu\n", (unsigned long)BALISE_PLACE(answer));
@@ -59,15 +102,15 @@ int main(void)
     answer = balise_read(capture + BALISE_PLACE(answer), BALISE_WINDOW_BITS(format), user,
                          sizeof user);
     print_reading("read", answer);
-    print_user_bits(user, format);
+    print_made(user, answer);
+    if (print_too_large(user, answer))
+        return 1;
 
     answer = balise_encode(user, BALISE_USER_BITS(format), telegram, sizeof telegram);
     printf("encode %u %u %u %u %lu\n", BALISE_NUMBER(answer), BALISE_FORMAT(answer),
            BALISE_ENCODED_B(answer), BALISE_ENCODED_ESB(answer),
            (unsigned long)BALISE_ENCODED_COUNT(answer));
-    for (i = 0; i < (size_t)BALISE_TELEGRAM_BITS(format); i++)
-        putchar('0' + telegram[i]);
-    putchar('\n');
+    print_bits(telegram, BALISE_TELEGRAM_BITS(format));
 
     answer = balise_check(telegram, BALISE_TELEGRAM_BITS(format));
     printf("check %u %u\n", BALISE_NUMBER(answer), BALISE_FORMAT(answer));

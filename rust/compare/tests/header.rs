@@ -44,14 +44,28 @@ fn format_bit(format: Format) -> u8 {
 fn reading_line(call: &str, answer: Result<Reading, Refusal>) -> String {
     match answer {
         Ok(reading) => format!(
-            "{call} 0 {} {} {} {}\n",
+            "{call} 0 {} {} {} {} {}\n",
             format_bit(reading.format),
             reading.b,
             reading.turn,
-            u8::from(reading.flipped)
+            u8::from(reading.flipped),
+            reading.esb
         ),
-        Err(refusal) => format!("{call} {} 0 0 0 0\n", refusal.number()),
+        Err(refusal) => format!("{call} {} 0 0 0 0 0\n", refusal.number()),
     }
+}
+
+/// The lines of the user bits of a reading, and of the telegram made again of
+/// them.
+fn made_lines(user: &[u8], reading: &Reading) -> String {
+    let format = reading.format;
+    let user = &user[..format.user_bits()];
+    let mut telegram = [0; MAX_TELEGRAM_BITS];
+    let (b, esb) = (reading.b.into(), reading.esb.into());
+    let made = balise::make(user, b, esb, &mut telegram).expect("a telegram");
+    assert_eq!(made, format);
+    let bits = text(&telegram[..format.telegram_bits()]);
+    format!("{}\nmake 0 {}\n{bits}\n", text(user), format_bit(made))
 }
 
 fn sizes() -> String {
@@ -78,7 +92,7 @@ fn expected(capture: &[u8]) -> String {
     let answer = balise::read_well_formed(capture, &mut user);
     lines += &reading_line("read_well_formed", answer);
     if let Ok(reading) = answer {
-        writeln!(lines, "{}", text(&user[..reading.format.user_bits()])).unwrap();
+        lines += &made_lines(&user, &reading);
     }
     let answer = balise::search(capture);
     lines += &reading_line("search", answer.map(|found| found.reading));
@@ -90,9 +104,11 @@ fn expected(capture: &[u8]) -> String {
     let reading = balise::read(balise::stretch(capture), &mut user);
     assert_eq!(reading, Ok(found.reading));
     lines += &reading_line("read", reading);
+    lines += &made_lines(&user, &found.reading);
+    let too_large = Refusal::PairTooLarge.number();
+    lines += &format!("make {too_large}\n").repeat(4);
     let format = found.reading.format;
     let (m, n) = (format.user_bits(), format.telegram_bits());
-    writeln!(lines, "{}", text(&user[..m])).unwrap();
     let mut telegram = [0; MAX_TELEGRAM_BITS];
     let encoded = balise::encode(&user[..m], &mut telegram).expect("a pair");
     let bit = format_bit(encoded.format);
@@ -132,7 +148,8 @@ fn c_program() {
         let output = written(&program, &window);
         assert_eq!(output, expected(&window));
         assert!(output.contains("\nread_well_formed 0 "));
-        assert!(output.ends_with("\nsearch 13 0 0 0 0\nplace 0\n"));
+        assert!(output.contains("\nmake 0 "));
+        assert!(output.ends_with("\nsearch 13 0 0 0 0 0\nplace 0\n"));
     }
     for capture in [
         vec![],

@@ -1,8 +1,8 @@
-//! Any bytes to the five calls: 200,000 calls in all, or as many as the variable
+//! Any bytes to the six calls: 200,000 calls in all, or as many as the variable
 //! BALISE_CALLS says. Every answer and every byte of the outputs and around them
 //! is that of the second program.
 
-use compare::calls::{check, encode, read_both, search, Tally};
+use compare::calls::{check, encode, make, read_both, search, Tally};
 use compare::telegrams::*;
 use compare::{asked, burst, patterns};
 use second::appendices::appendix_b;
@@ -10,12 +10,13 @@ use second::bits::all_bits;
 use second::encode_skipping;
 use second::format::{Format, FORMATS};
 use second::random::Random;
-use second::telegram::{cut, well_formed};
+use second::read::user_bits_of;
+use second::telegram::{b_of, cut, esb_of, well_formed};
 
 /// Telegrams of each format besides those of Appendix B.
 const TELEGRAMS: usize = 12;
 
-/// Most bytes given to encode, check and read, and to search.
+/// Most bytes given to encode, make, check and read, and to search.
 const LENGTH: usize = 2200;
 const CAPTURE: usize = 7600;
 
@@ -224,6 +225,39 @@ impl Inputs {
         }
     }
 
+    /// A block with B and esb: any, those that a telegram is made of, and such
+    /// with damage or another number.
+    fn block_and_pair(&mut self) -> (Vec<u8>, u64, u64) {
+        let (telegram, format) = self.telegram();
+        let mut block = user_bits_of(&telegram, format).expect("user bits");
+        let mut b = u64::from(b_of(&telegram, format));
+        let mut esb = u64::from(esb_of(&telegram, format));
+        match self.random.below(4) {
+            0 => block = self.list([830, 210], true),
+            1 => self.damage(&mut block),
+            _ => {}
+        }
+        if self.one_in(2) {
+            b = self.number(4096, b);
+        }
+        if self.one_in(2) {
+            esb = self.number(1024, esb);
+        }
+        (block, b, esb)
+    }
+
+    /// A number: any, one below a bound, about it, or with further bits before
+    /// those of a good one.
+    fn number(&mut self, bound: u64, good: u64) -> u64 {
+        match self.random.below(6) {
+            0 => self.random.number(),
+            1 => bound - 2 + self.random.below(4) as u64,
+            2 => good | 1 << self.random.below(64),
+            3 => good ^ 1 << self.random.below(10),
+            _ => self.random.below(bound as usize) as u64,
+        }
+    }
+
     /// The length of an output: any, or about the room that is needed.
     fn room(&mut self, needed: usize) -> usize {
         match self.random.below(4) {
@@ -245,7 +279,7 @@ fn moved(random: &mut Random, list: &[u8]) -> (Vec<u8>, usize) {
 fn encode_any_bytes() {
     let mut inputs = Inputs::new(101);
     let mut tally = Tally::default();
-    for _ in 0..share(20) {
+    for _ in 0..share(18) {
         let mut block = inputs.list([830, 210], true);
         let format = Format::of_block(block.len());
         let needed = format.unwrap_or(Format::Long).telegram_bits();
@@ -267,11 +301,27 @@ fn encode_any_bytes() {
 }
 
 #[test]
+fn make_any_bytes() {
+    let mut inputs = Inputs::new(105);
+    inputs.add_barred();
+    let mut tally = Tally::default();
+    for _ in 0..share(12) {
+        let (block, b, esb) = inputs.block_and_pair();
+        let format = Format::of_block(block.len()).unwrap_or(Format::Long);
+        let room = inputs.room(format.telegram_bits());
+        let (buffer, at) = moved(&mut inputs.random, &block);
+        tally.add(make(&mut inputs.random, &buffer[at..], b, esb, room).0);
+    }
+    tally.print("calls of make, by number");
+    assert_eq!(tally.numbers(), [0, 1, 2, 3, 9, 27]);
+}
+
+#[test]
 fn check_any_bytes() {
     let mut inputs = Inputs::new(102);
     inputs.add_barred();
     let mut tally = Tally::default();
-    for _ in 0..share(24) {
+    for _ in 0..share(20) {
         let telegram = inputs.list([1023, 341], true);
         let (buffer, at) = moved(&mut inputs.random, &telegram);
         tally.add(check(&buffer[at..]));
@@ -286,7 +336,7 @@ fn read_any_bytes() {
     let mut inputs = Inputs::new(103);
     inputs.add_barred();
     let (mut tally, mut other_tally) = (Tally::default(), Tally::default());
-    for _ in 0..share(23) {
+    for _ in 0..share(20) {
         let window = inputs.list([1100, 462], false);
         let needed = Format::of_window(window.len())
             .unwrap_or(Format::Long)

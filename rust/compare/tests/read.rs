@@ -1,7 +1,7 @@
 //! Reading by both window calls: what a window says, the user bits, and each
-//! refusal where it is the lowest that applies.
+//! refusal where it is the lowest that applies. What was read is made again.
 
-use compare::calls::{read, read_both, read_well_formed, Tally};
+use compare::calls::{make_again, read, read_both, read_well_formed, Tally};
 use compare::telegrams::*;
 use compare::{burst, other_lengths, patterns};
 use second::appendices::appendix_b;
@@ -10,7 +10,7 @@ use second::conditions::condition_2;
 use second::format::{Format, FORMATS};
 use second::random::Random;
 use second::read::user_bits_of;
-use second::telegram::{b_of, cut, well_formed};
+use second::telegram::{b_of, cut, esb_of, well_formed};
 use second::Reading;
 
 /// Room for the user bits of either format.
@@ -92,10 +92,12 @@ fn every_turn(tallies: &mut Tallies, random: &mut Random) {
                     b: b_of(&telegram, format),
                     turn,
                     flipped,
+                    esb: esb_of(&telegram, format),
                 };
                 assert_eq!([&answer, &other], [&Ok(reading), &Ok(reading)]);
                 assert_eq!(output[..user.len()], user);
                 assert_eq!(other_output[..user.len()], user);
+                assert_eq!(make_again(random, &window, &reading, &output), telegram);
                 tallies.add([answer, other]);
             }
         }
@@ -238,12 +240,14 @@ fn not_proper(tallies: &mut Tallies, random: &mut Random) {
                     b: b_of(&telegram, format),
                     turn,
                     flipped,
+                    esb: esb_of(&telegram, format),
                 };
                 for room in [m, m + 1 + random.below(40)] {
                     let (refused, _) = read(random, &window, room);
                     let (answer, output) = read_well_formed(random, &window, room);
                     assert_eq!([&refused, &answer], [&Err(number), &Ok(reading)]);
                     assert_eq!(output[..m], user);
+                    assert_eq!(make_again(random, &window, &reading, &output), telegram);
                     tallies.add([refused, answer]);
                 }
                 let room = random.below(m);

@@ -35,7 +35,14 @@ fn header_and_wrapper_name_what_the_library_answers() {
     }
     assert_eq!(header, answered);
     for (call, numbers) in by_call {
-        assert_eq!(header_list(call), numbers, "{call}");
+        let list = header_list(call);
+        assert_eq!(BTreeSet::from_iter(list.clone()), numbers, "{call}");
+        // where the lowest is not given first, the header says in which order
+        let order: Vec<u8> = match call {
+            "make" => vec![1, 2, 27, 3, 9],
+            _ => numbers.into_iter().collect(),
+        };
+        assert_eq!(list, order, "{call}");
     }
     let named = Refusal::ALL.map(|refusal| (header_name(refusal), refusal.number()));
     assert_eq!(BTreeMap::from(named), answered);
@@ -53,7 +60,10 @@ fn read_well_formed_gives_no_refusal_of_a_condition() {
         }
     }
     assert!(windows > 0);
-    assert!(header_list("read_well_formed").is_subset(&header_list("read")));
+    let read = header_list("read");
+    assert!(header_list("read_well_formed")
+        .iter()
+        .all(|number| read.contains(number)));
 }
 
 /// The page adds to some what it means in one call.
