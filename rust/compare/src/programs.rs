@@ -1,10 +1,10 @@
 //! The repository's programs, and commands of the machine.
 
 use balise::{CAPTURE_LIMIT, MAX_TELEGRAM_BITS, MAX_USER_BITS, MAX_WINDOW_BITS};
-use std::env;
 use std::io::Write;
 use std::path::{Path, PathBuf};
 use std::process::{Command, Output, Stdio};
+use std::{env, fs};
 
 /// A program of the repository.
 #[derive(Clone, Copy, Debug)]
@@ -20,13 +20,23 @@ const fn program(name: &'static str, word: &'static str, limit: usize) -> Progra
     Program { name, word, limit }
 }
 
-pub const PROGRAMS: [Program; 5] = [
+pub const PROGRAMS: [Program; 6] = [
     program("encode_block", "encode", MAX_USER_BITS),
     program("check_telegram", "check", MAX_TELEGRAM_BITS),
     program("read_window", "read", MAX_WINDOW_BITS),
     program("read_well_formed", "read-well-formed", MAX_WINDOW_BITS),
     program("search_capture", "capture", CAPTURE_LIMIT),
+    program("make_telegram", "make", MAX_USER_BITS),
 ];
+
+impl Program {
+    /// The arguments of its stored example, a line each; most programs take none.
+    pub fn arguments(&self) -> Vec<String> {
+        let path = repository().join("crates").join(self.name).join("args");
+        let text = fs::read_to_string(path).unwrap_or_default();
+        text.lines().map(String::from).collect()
+    }
+}
 
 /// The repository's root.
 pub fn repository() -> PathBuf {

@@ -1,15 +1,18 @@
-//! The five programs against the second program, on the same standard input:
-//! all that they write, to standard output and to standard error, is the same.
-//! Both are built before the tests run.
+//! The six programs against the second program, with the same arguments and on
+//! the same standard input: all that they write, to standard output and to
+//! standard error, is the same. Both are built before the tests run.
 
+use compare::documents::document;
 use compare::programs::{repository, run, stderr, stdout, Program, PROGRAMS};
 use compare::telegrams::{random_telegram, telegram_of};
 use second::appendices::well_formed_not_proper;
-use second::bits::text;
+use second::bits::{of_text, text};
 use second::format::{Format, FORMATS};
 use second::random::Random;
 use second::telegram::cut;
+use std::ffi::OsStr;
 use std::fs::File;
+use std::os::unix::ffi::OsStrExt;
 use std::process::{Command, Stdio};
 
 /// What a program writes, to standard output and to standard error.
@@ -19,28 +22,51 @@ struct Written {
     error: String,
 }
 
-/// What a program at this place writes.
-fn written(place: &str, argument: Option<&str>, from: Stdio, input: &[u8]) -> Written {
+/// What a program at this place writes, its arguments after the word. It exits
+/// with 0.
+fn written(
+    place: &str,
+    word: Option<&str>,
+    arguments: &[impl AsRef<OsStr>],
+    from: Stdio,
+    input: &[u8],
+) -> Written {
     let mut command = Command::new(repository().join(place));
-    let ran = run(command.args(argument), from, input);
+    let ran = run(command.args(word).args(arguments), from, input);
+    assert_eq!(ran.status.code(), Some(0), "{command:?}");
     Written {
         output: stdout(&ran),
         error: stderr(&ran),
     }
 }
 
-/// What both programs write, each with its input from such a place; on
-/// standard error one line for a bad text, and else nothing.
-fn agreed_from(kind: &str, from: impl Fn() -> Stdio, input: &[u8]) -> Written {
+/// The program that does what the second program does by this word.
+fn program(kind: &str) -> &'static Program {
     let program = PROGRAMS.iter().find(|program| program.word == kind);
-    let ours = format!("target/bin/{}", program.expect("a kind").name);
-    let ours = written(&ours, None, from(), input);
+    program.expect("a kind")
+}
+
+/// What both programs write, each with these arguments and its input from such a
+/// place; on standard error one line where the answer is bad, and else nothing.
+fn agreed_with(
+    kind: &str,
+    arguments: &[impl AsRef<OsStr>],
+    from: impl Fn() -> Stdio,
+    input: &[u8],
+) -> Written {
+    let ours = format!("target/bin/{}", program(kind).name);
+    let ours = written(&ours, None, arguments, from(), input);
     let second = "rust/target/release/second";
-    let second = written(second, Some(kind), from(), input);
+    let second = written(second, Some(kind), arguments, from(), input);
     assert_eq!(ours, second, "{kind}");
     let bad = ours.output.ends_with("bad\n");
     assert_eq!(ours.error.lines().count(), usize::from(bad), "{kind}");
     ours
+}
+
+/// The same with the arguments of the stored example.
+fn agreed_from(kind: &str, from: impl Fn() -> Stdio, input: &[u8]) -> Written {
+    agreed_with(kind, &program(kind).arguments(), from, input)
 }
 
 /// What both programs write to standard output on this input.
@@ -230,4 +256,199 @@ fn captures_at_the_limit() {
     let mut capture = random.bits(7500 - 462);
     capture.extend(cut(&telegram, 17, 462, true));
     assert!(agreed("capture", text(&capture).as_bytes()).contains("place"));
+}
+
+/// What the toolchain runs each program on, and what it is to write.
+#[test]
+fn stored_examples() {
+    for Program {
+        name, word: kind, ..
+    } in PROGRAMS
+    {
+        let input = document(&format!("crates/{name}/stdin"));
+        let output = document(&format!("crates/{name}/stdout"));
+        assert_eq!(agreed(kind, input.as_bytes()), output);
+    }
+    assert_eq!(program("make").arguments().len(), 2);
+}
+
+/// What both programs make of a block with these arguments.
+fn make(arguments: &[&str], block: &[u8]) -> Written {
+    agreed_with("make", arguments, Stdio::piped, block)
+}
+
+/// Arguments that are no numbers of one to nine digits.
+const NO_NUMBERS: [&[u8]; 24] = [
+    b"",
+    b"-1",
+    b"+1",
+    b"-",
+    b" 1",
+    b"1 ",
+    b" ",
+    b"1x",
+    b"x1",
+    b"x",
+    b"1.0",
+    b"1,0",
+    b"0x1",
+    b"1e1",
+    b"1\n",
+    b"/1",
+    b"1:",
+    b"1234567890",
+    b"0000000018",
+    b"99999999999999999999999999",
+    b"\xff",
+    b"1\xff",
+    b"\xc2\xb9",
+    b"\xd9\xa1",
+];
+
+/// The arguments are tested before the text is read, B first: whatever the text
+/// is, and also where it cannot be read.
+#[test]
+fn arguments_that_are_no_numbers() {
+    let good = document("crates/make_telegram/stdin");
+    let folder = || Stdio::from(File::open(repository()).expect("a folder"));
+    let bad = |which: &str| Written {
+        output: String::from("balise make 1\nbad\n"),
+        error: format!("balise: the {which}, one to nine digits\n"),
+    };
+    let (first, second) = (
+        bad("first argument must be B"),
+        bad("second argument must be esb"),
+    );
+    let pair = ["18", "119"].map(OsStr::new);
+    let mut lists = vec![(vec![], &first), (vec![pair[0]], &second)];
+    for bytes in NO_NUMBERS {
+        let no_number = OsStr::from_bytes(bytes);
+        lists.extend([
+            (vec![no_number], &first),
+            (vec![no_number, pair[1]], &first),
+            (vec![no_number, no_number], &first),
+            (vec![no_number, pair[1], pair[0]], &first),
+            (vec![pair[0], no_number], &second),
+            (vec![pair[0], no_number, pair[1]], &second),
+        ]);
+    }
+    for (arguments, expected) in &lists {
+        for text in [good.as_bytes(), b"x", b""] {
+            let written = agreed_with("make", arguments, Stdio::piped, text);
+            assert_eq!(written, **expected, "{arguments:?}");
+        }
+        assert_eq!(agreed_with("make", arguments, folder, b""), **expected);
+    }
+    println!(
+        "{} lists of arguments that are not two numbers",
+        lists.len()
+    );
+}
+
+/// Leading zeros do not count, and what comes after two numbers is not looked at.
+#[test]
+fn arguments_that_are_numbers() {
+    let block = document("crates/make_telegram/stdin");
+    let block = block.as_bytes();
+    let answer = make(&["18", "119"], block);
+    assert!(answer.output.contains("\nshort sb 18 esb 119\n"));
+    for arguments in [
+        &["018", "119"][..],
+        &["000000018", "000000119"],
+        &["18", "0119"],
+        &["18", "119", "7"],
+        &["18", "119", "x"],
+        &["18", "119", ""],
+        &["18", "119", "-1", "1234567890"],
+    ] {
+        assert_eq!(make(arguments, block), answer);
+    }
+    let third = ["18", "119"].map(OsStr::new);
+    let third = [&third[..], &[OsStr::from_bytes(b"\xff")]].concat();
+    assert_eq!(agreed_with("make", &third, Stdio::piped, block), answer);
+    for (arguments, number) in [
+        (["119", "18"], 9),
+        (["0", "0"], 9),
+        (["000000000", "000000000"], 9),
+        (["4095", "1023"], 9),
+        (["4096", "119"], 27),
+        (["18", "1024"], 27),
+        (["999999999", "119"], 27),
+        (["18", "999999999"], 27),
+        (["65554", "119"], 27),
+        (["18", "65655"], 27),
+    ] {
+        let refused = format!("balise make 1\nbits 210\nrefused {number}\n");
+        assert_eq!(make(&arguments, block).output, refused);
+    }
+    // refusal 1 comes before 27
+    let refused = "balise make 1\nbits 3\nrefused 1\n";
+    assert_eq!(make(&["4096", "1024"], b"010").output, refused);
+}
+
+/// Blocks with random pairs, and with those of the encoder.
+#[test]
+fn pairs() {
+    let mut random = Random::new(36);
+    for format in FORMATS {
+        for _ in 0..40 {
+            let block = text(&random.bits(format.user_bits()));
+            let (b, esb) = (random.below(4200), random.below(1050));
+            make(&[&b.to_string(), &esb.to_string()], block.as_bytes());
+        }
+        for _ in 0..3 {
+            let block = text(&random.bits(format.user_bits()));
+            let encoded = agreed("encode", block.as_bytes());
+            let lines: Vec<&str> = encoded.lines().collect();
+            let words: Vec<&str> = lines[2].split(' ').collect();
+            let made = make(&[words[2], words[4]], block.as_bytes()).output;
+            let bits = format.user_bits();
+            let facts = words[..5].join(" ");
+            let telegram = lines[3];
+            assert_eq!(
+                made,
+                format!("balise make 1\nbits {bits}\n{facts}\n{telegram}\n")
+            );
+        }
+    }
+}
+
+/// What was read, by each of the three programs, is made again: cut at the turn
+/// and flipped as the answer says, it is the window's first n bits.
+#[test]
+fn read_and_made_again() {
+    let mut random = Random::new(37);
+    let mut telegrams: Vec<Vec<u8>> = well_formed_not_proper().into_iter().step_by(9).collect();
+    for format in FORMATS {
+        telegrams.push(random_telegram(&mut random, format));
+        telegrams.push(random_telegram(&mut random, format));
+    }
+    let mut again = 0;
+    for telegram in telegrams {
+        let format = Format::of_telegram(telegram.len()).expect("a telegram");
+        let n = format.telegram_bits();
+        for flipped in [false, true] {
+            let window = cut(&telegram, random.below(n), format.window_bits(), flipped);
+            for kind in ["read", "read-well-formed", "capture"] {
+                let answer = agreed(kind, text(&window).as_bytes());
+                let lines: Vec<&str> = answer.lines().collect();
+                let Some(user) = lines.get(3) else {
+                    assert!(second::check(&telegram).is_err());
+                    continue;
+                };
+                let words: Vec<&str> = lines[2].split(' ').collect();
+                let [.., "turn", turn, "sb", b, way, "esb", esb] = words[..] else {
+                    panic!("{words:?}");
+                };
+                let made = make(&[b, esb], user.as_bytes()).output;
+                let made = made.lines().nth(3).expect("a telegram");
+                let made = of_text(made.as_bytes()).expect("bits");
+                let turn = turn.parse().expect("a turn");
+                assert_eq!(cut(&made, turn, n, way == "flipped"), window[..n]);
+                again += 1;
+            }
+        }
+    }
+    println!("{again} telegrams made again by the programs");
+    assert!(again > 30);
 }

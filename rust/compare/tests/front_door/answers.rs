@@ -1,20 +1,26 @@
 //! What is written, and the exit status.
 
 use crate::scratch::{assert_answer, assert_no_answer, Scratch};
-use crate::{example, not_proper, proper, BAD, PROPER};
+use crate::{example, not_proper, proper, BAD, MAKE, PROPER};
 use compare::documents::{meanings, Meaning};
 use compare::programs::{stderr, stdout, PROGRAMS};
 use std::fs;
 
-/// The five commands, each with an input that is accepted.
-fn accepted() -> [(&'static str, String); 5] {
+/// The six commands, each with an input that is accepted.
+fn accepted() -> [(&'static str, String); 6] {
     [
         ("encode", example("encode_block")),
         ("check", proper()),
         ("read", example("read_window")),
         ("read-well-formed", not_proper()),
         ("search", example("search_capture")),
+        (MAKE, example("make_telegram")),
     ]
+}
+
+/// The words of a command, and some more.
+fn words<'a>(command: &'a str, more: &[&'a str]) -> Vec<&'a str> {
+    command.split(' ').chain(more.iter().copied()).collect()
 }
 
 #[test]
@@ -33,6 +39,7 @@ fn a_write_that_fails() {
             assert_no_answer(&ran, "balise: the answer could not be written");
         }
     }
+    scratch.write("input", &example("search_capture"));
     let ran = scratch.shell("./balise encode --only input >/dev/full");
     assert_eq!(ran.status.code(), Some(1), "a capture is no block");
     for words in ["help", "--version"] {
@@ -47,8 +54,8 @@ fn status() {
     for (command, input) in accepted() {
         let refused: &[u8] = if command == "search" { b"0" } else { b"01" };
         for (input, status) in [(input.as_bytes(), 0), (refused, 1), (b"2", 1)] {
-            let plain = scratch.balise(&[command], input);
-            let asked = scratch.balise(&[command, "--status"], input);
+            let plain = scratch.balise(&words(command, &[]), input);
+            let asked = scratch.balise(&words(command, &["--status"]), input);
             assert_answer(&asked, status, &stdout(&plain));
             assert_eq!(plain.status.code(), Some(0));
         }
@@ -61,8 +68,9 @@ fn status() {
 fn only_line_four() {
     let scratch = Scratch::built();
     for (command, input) in accepted() {
-        let whole = stdout(&scratch.balise(&[command], input.as_bytes()));
-        let ran = scratch.balise(&[command, "--only"], input.as_bytes());
+        let only = words(command, &["--only"]);
+        let whole = stdout(&scratch.balise(&words(command, &[]), input.as_bytes()));
+        let ran = scratch.balise(&only, input.as_bytes());
         if command == "check" {
             assert_no_answer(&ran, "check has no line four");
             continue;
@@ -70,7 +78,7 @@ fn only_line_four() {
         let four = whole.lines().nth(3).expect("line four");
         assert_answer(&ran, 0, &format!("{four}\n"));
         for (input, words) in [("01x", "bad: character 120"), ("01", "")] {
-            let ran = scratch.balise(&[command, "--only"], input.as_bytes());
+            let ran = scratch.balise(&only, input.as_bytes());
             assert_answer(&ran, 1, "");
             assert!(stderr(&ran).contains(words), "{ran:?}");
         }
@@ -106,8 +114,9 @@ fn what_is_wrong_with_a_bad_input() {
         ("read", 1100),
         ("read-well-formed", 1100),
         ("search", 7500),
+        (MAKE, 830),
     ] {
-        let ran = scratch.balise(&[command], more(limit).as_bytes());
+        let ran = scratch.balise(&words(command, &[]), more(limit).as_bytes());
         assert!(stdout(&ran).ends_with("\nbad\n"));
         let words = format!("balise: standard input: more than {limit} bits\n");
         assert_eq!(stderr(&ran), words);
@@ -125,7 +134,11 @@ fn what_a_refusal_means() {
     scratch.write("file", "01");
     // not where standard error is no terminal
     assert_eq!(stderr(&scratch.balise(&["check", "file"], b"")), "");
-    for (command, result, number) in [("read", "refused 1", 1), ("search", "none", 13)] {
+    for (command, result, number) in [
+        ("read", "refused 1", 1),
+        ("search", "none", 13),
+        (MAKE, "refused 1", 1),
+    ] {
         let row = meanings.iter().find(|row| row.number == number);
         let Meaning { means, advice, .. } = row.expect("a row");
         let line = format!("./balise {command} file >answer");
@@ -224,6 +237,7 @@ fn usage() {
         assert_eq!(ran.status.code(), Some(0));
         assert!(stdout(&ran).starts_with("usage: balise COMMAND"));
         assert!(stdout(&ran).contains("\n  read-well-formed\n"));
+        assert!(stdout(&ran).contains("\n  make B ESB\n"));
     }
     assert_no_answer(&scratch.balise(&[], b""), "usage: balise");
     assert_no_answer(&scratch.balise(&["burn"], b""), "no command 'burn'");

@@ -5,6 +5,7 @@
 mod answers;
 mod builds;
 mod inputs;
+mod make;
 mod scratch;
 
 use compare::documents::document;
@@ -27,6 +28,9 @@ fn example(program: &str) -> String {
 fn not_proper() -> String {
     text(&cut(&well_formed_not_proper()[0], 0, 1100, false))
 }
+
+/// The command make with the numbers of its stored example.
+const MAKE: &str = "make 18 119";
 
 const PROPER: &str = "balise check 1\nbits 1023\nlong proper\n";
 const BAD: &str = "balise check 1\nbad\n";
