@@ -6,11 +6,20 @@
 #include <stdio.h>
 #include <string.h>
 
+/* The fields of a reading, the place, and the bits that have no field. */
 static void print_reading(const char *call, uint64_t answer)
 {
-    printf("%s %u %u %u %u %u %u\n", call, BALISE_NUMBER(answer), BALISE_FORMAT(answer),
-           BALISE_READ_B(answer), BALISE_READ_TURN(answer), BALISE_READ_FLIPPED(answer),
-           BALISE_READ_ESB(answer));
+    printf("%s %u %u %u %u %u %u %lu %lu\n", call, BALISE_NUMBER(answer),
+           BALISE_FORMAT(answer), BALISE_READ_B(answer), BALISE_READ_TURN(answer),
+           BALISE_READ_FLIPPED(answer), BALISE_READ_ESB(answer),
+           (unsigned long)BALISE_PLACE(answer), (unsigned long)(answer >> 58));
+}
+
+/* The fields of an answer of make, and the bits that have no field. */
+static void print_make(uint64_t answer)
+{
+    printf("make %u %u %lu\n", BALISE_NUMBER(answer), BALISE_FORMAT(answer),
+           (unsigned long)(answer >> 9));
 }
 
 static void print_bits(const uint8_t *bits, int count)
@@ -32,7 +41,7 @@ static void print_made(const uint8_t *user, uint64_t reading)
     print_bits(user, BALISE_USER_BITS(format));
     answer = balise_make(user, BALISE_USER_BITS(format), BALISE_READ_B(reading),
                          BALISE_READ_ESB(reading), telegram, sizeof telegram);
-    printf("make %u %u\n", BALISE_NUMBER(answer), BALISE_FORMAT(answer));
+    print_make(answer);
     print_bits(telegram, BALISE_TELEGRAM_BITS(format));
 }
 
@@ -53,7 +62,7 @@ static int print_too_large(const uint8_t *user, uint64_t reading)
     answers[2] = balise_make(user, m, (uint64_t)negative, esb, telegram, sizeof telegram);
     answers[3] = balise_make(user, m, b, (uint64_t)1 << 32 | esb, telegram, 0);
     for (i = 0; i < 4; i++) {
-        printf("make %u\n", BALISE_NUMBER(answers[i]));
+        print_make(answers[i]);
         if (BALISE_NUMBER(answers[i]) != BALISE_REFUSED_PAIR_TOO_LARGE)
             return 1;
     }
@@ -94,7 +103,6 @@ int main(void)
         print_made(user, answer);
     answer = balise_search(capture, length);
     print_reading("search", answer);
-    printf("place %lu\n", (unsigned long)BALISE_PLACE(answer));
     if (BALISE_NUMBER(answer) != 0)
         return 0;
 

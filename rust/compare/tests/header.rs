@@ -1,7 +1,8 @@
 //! A C program against include/balise.h and the static library: its answers are
 //! those of the balise package.
 
-use balise::{Format, Reading, Refusal, CAPTURE_LIMIT, MAX_TELEGRAM_BITS, MAX_USER_BITS};
+use balise::{Format, Found, Reading, Refusal};
+use balise::{CAPTURE_LIMIT, MAX_TELEGRAM_BITS, MAX_USER_BITS};
 use compare::programs::{repository, run, stdout};
 use compare::telegrams::random_telegram;
 use second::appendices::well_formed_not_proper;
@@ -41,18 +42,24 @@ fn format_bit(format: Format) -> u8 {
     u8::from(format == Format::Short)
 }
 
-fn reading_line(call: &str, answer: Result<Reading, Refusal>) -> String {
+/// The line of a window found at a place. The bits that have no field are 0.
+fn found_line(call: &str, answer: Result<Found, Refusal>) -> String {
     match answer {
-        Ok(reading) => format!(
-            "{call} 0 {} {} {} {} {}\n",
+        Ok(Found { place, reading }) => format!(
+            "{call} 0 {} {} {} {} {} {place} 0\n",
             format_bit(reading.format),
             reading.b,
             reading.turn,
             u8::from(reading.flipped),
             reading.esb
         ),
-        Err(refusal) => format!("{call} {} 0 0 0 0 0\n", refusal.number()),
+        Err(refusal) => format!("{call} {} 0 0 0 0 0 0 0\n", refusal.number()),
     }
+}
+
+/// The line of a window call, whose place is 0.
+fn reading_line(call: &str, answer: Result<Reading, Refusal>) -> String {
+    found_line(call, answer.map(|reading| Found { place: 0, reading }))
 }
 
 /// The lines of the user bits of a reading, and of the telegram made again of
@@ -65,7 +72,7 @@ fn made_lines(user: &[u8], reading: &Reading) -> String {
     let made = balise::make(user, b, esb, &mut telegram).expect("a telegram");
     assert_eq!(made, format);
     let bits = text(&telegram[..format.telegram_bits()]);
-    format!("{}\nmake 0 {}\n{bits}\n", text(user), format_bit(made))
+    format!("{}\nmake 0 {} 0\n{bits}\n", text(user), format_bit(made))
 }
 
 fn sizes() -> String {
@@ -95,9 +102,7 @@ fn expected(capture: &[u8]) -> String {
         lines += &made_lines(&user, &reading);
     }
     let answer = balise::search(capture);
-    lines += &reading_line("search", answer.map(|found| found.reading));
-    let place = answer.map_or(0, |found| found.place);
-    writeln!(lines, "place {place}").unwrap();
+    lines += &found_line("search", answer);
     let Ok(found) = answer else {
         return lines;
     };
@@ -106,7 +111,7 @@ fn expected(capture: &[u8]) -> String {
     lines += &reading_line("read", reading);
     lines += &made_lines(&user, &found.reading);
     let too_large = Refusal::PairTooLarge.number();
-    lines += &format!("make {too_large}\n").repeat(4);
+    lines += &format!("make {too_large} 0 0\n").repeat(4);
     let format = found.reading.format;
     let (m, n) = (format.user_bits(), format.telegram_bits());
     let mut telegram = [0; MAX_TELEGRAM_BITS];
@@ -149,7 +154,7 @@ fn c_program() {
         assert_eq!(output, expected(&window));
         assert!(output.contains("\nread_well_formed 0 "));
         assert!(output.contains("\nmake 0 "));
-        assert!(output.ends_with("\nsearch 13 0 0 0 0 0\nplace 0\n"));
+        assert!(output.ends_with("\nsearch 13 0 0 0 0 0 0 0\n"));
     }
     for capture in [
         vec![],
