@@ -23,10 +23,11 @@ pub fn shape(scrambled: &[u8], k: usize, out: &mut [u8])
     requires { ⌜ 11 * k ≤ length (now out) ⌝ }
     ensures { λ _. ⌜ now (out .exit) ≡ shaped k (now (scrambled .entry)) ++ drop (11 * k) (now (out .entry)) ⌝ }
 {
+    let entries = words::entries();
     let mut j = 0;
     while j < k {
         let number = bits::number(scrambled, 10 * j, 10);
-        let word = words::word(number as u16);
+        let word = words::word_in(&entries, number as u16);
         let at = 11 * j;
         bits::write_number(&mut out[at..], 11, word as u32);
         j += 1;

@@ -1,6 +1,7 @@
 // The 10-to-11 table (document 01, "Words"): the word of a number, the number of a word, and the barred words.
 ghost use mathlib.Core.Path.{_≡_};
 ghost use Prim.Native.Nat.{_<_};
+ghost use Rattle.words.specs.Table.{table};
 ghost use Rattle.words.specs.Words.{wordOf, lookupOf, inTable, inGroup250, inGroup20};
 
 mod parts;
@@ -38,12 +39,28 @@ const BARRED: [u16; 20] = [
     0b10011001100,
 ];
 
+// The table. A constant array is copied at each use: who needs many words takes it once, and each word by `word_in`.
+pub fn entries() -> [u16; 1024]
+    ensures { λ r. ⌜ r ≡ table ⌝ }
+{
+    TABLE
+}
+
+// The word of the number i, from the table.
+pub fn word_in(entries: &[u16], i: u16) -> u16
+    requires { ⌜ (now entries ≡ table) × (i < 1024) ⌝ }
+    ensures { λ r. ⌜ r ≡ wordOf i ⌝ }
+{
+    entries[i as usize]
+}
+
 // The word of the number i.
 pub fn word(i: u16) -> u16
     requires { ⌜ i < 1024 ⌝ }
     ensures { λ r. ⌜ r ≡ wordOf i ⌝ }
 {
-    TABLE[i as usize]
+    let entries = entries();
+    word_in(&entries, i)
 }
 
 // The number of a word: how many words of the table are below it, since the table rises. With 1024 more for a word that the table

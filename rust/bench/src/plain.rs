@@ -234,7 +234,8 @@ fn user_bits(
 static WORDS: LazyLock<[u16; words::ENTRIES]> =
     LazyLock::new(|| std::array::from_fn(|i| words::word(i as u16)));
 
-/// Makes a telegram, as the second program's `make`.
+/// Makes a telegram, as the second program's `make`. Of the words the last ten are
+/// tested: the others come from the table.
 pub fn make(block: &[u8], b: u64, esb: u64, output: &mut [u8]) -> Result<Format, u8> {
     match Format::of_block(block.len()).ok_or(refusal::LENGTH)? {
         Format::Long => make_as::<G, FG>(Format::Long, block, b, esb, output),

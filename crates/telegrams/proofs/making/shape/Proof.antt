@@ -18,10 +18,13 @@ use Rattle.telegrams.proofs.making.shape.Statement.{statement}
 use Rattle.telegrams.proofs.making.shape.Tie as tie
 
 abbrev Inv-loop : tie.InvT-loop
-Inv-loop scrambled k out₀ j₀ out j = (j ≤ k) × (length out ≡ length out₀) × (out ≡ shaped j scrambled ++ drop (11 * j) out₀)
+Inv-loop scrambled k out₀ entries j₀ out j = (j ≤ k) × (length out ≡ length out₀) × (out ≡ shaped j scrambled ++ drop (11 * j) out₀)
 
 abbrev μ-loop : tie.MeasureT-loop
-μ-loop scrambled k out₀ j₀ out j = k - j
+μ-loop scrambled k out₀ entries j₀ out j = k - j
+
+entries-requires : tie.Need-entries-requires Inv-loop μ-loop
+entries-requires c κs = search needs
 
 loop-holds : tie.Need-loop-holds Inv-loop μ-loop
 unfolding overGroups
@@ -31,21 +34,24 @@ mul-number : tie.Need-mul-number Inv-loop μ-loop
 mul-number c = omega arith
 
 number-requires : tie.Need-number-requires Inv-loop μ-loop
-number-requires c κs = (omega arith, (omega arith, c .before .before .before .before .pre .0))
+number-requires c κs = (omega arith, (omega arith, c .before .before .before .before .before .pre .0))
 
 -- ten bits are a number of the table
 ten-bits : (c : tie.After-number Inv-loop μ-loop) → c .number .result < 1024
 ten-bits c =
-    let start = c .before .before .before .before .before in
+    let start = c .before .before .before .before .before .before in
     let v = start .args .scrambled .now in
     let at = 10 * c .before .before .loop .j in
     omega (arith, c .number .ensures, front-below 10 (drop at v) (allBits-drop at v (start .pre .0)))
 
-cast-word : tie.Need-cast-word Inv-loop μ-loop
-cast-word c = omega (arith, ten-bits c)
+slice-aggregate-word-in : tie.Need-slice-aggregate-word-in Inv-loop μ-loop
+slice-aggregate-word-in c = search needs
 
-word-requires : tie.Need-word-requires Inv-loop μ-loop
-word-requires c κs = ten-bits c
+cast-word-in : tie.Need-cast-word-in Inv-loop μ-loop
+cast-word-in c = omega (arith, ten-bits (c .before))
+
+word-in-requires : tie.Need-word-in-requires Inv-loop μ-loop
+word-in-requires c κs = (c .before .before .before .before .entries .ensures, ten-bits (c .before))
 
 mul-at : tie.Need-mul-at Inv-loop μ-loop
 mul-at c = omega arith
@@ -73,15 +79,15 @@ loop-less c = omega arith
 
 loop-again : tie.Need-loop-again Inv-loop μ-loop
 loop-again c =
-    let l = c .before .before .before .before .before .before .before in
-    let start = l .before .before .before in
+    let l = c .before .before .before .before .before .before .before .before in
+    let start = l .before .before .before .before in
     let v = start .args .scrambled .now in
     let old = start .args .out .now in
     let j = l .loop .j in
     let called = c .before .before in
     let word = called .before .before in
-    let w = word .word .result in
-    let entry : w ≡ wordOf (numberOf (take 10 (drop (10 * j) v))) = word .word .ensures ∙ ap wordOf (word .before .number .ensures) in (
+    let w = word .word-in .result in
+    let entry : w ≡ wordOf (numberOf (take 10 (drop (10 * j) v))) = word .word-in .ensures ∙ ap wordOf (word .before .before .number .ensures) in (
       omega arith,
       omega arith,
       group-more wordOfBlock 10 11 length-word j v old (l .loop .out) (called .write-number .last .0) (bitsOf 11 w) (l .loop .inv .2)
@@ -94,7 +100,7 @@ same-length c = c .before .loop .inv .1
 returns : tie.Need-returns Inv-loop μ-loop
 returns c =
     let l = c .before in
-    let a = l .before .before .before .args in
+    let a = l .before .before .before .before .args in
     let all : l .loop .j ≡ a .k = omega arith in
     l .loop .inv .2 ∙ ap (λ (j : ℕ). shaped j (a .scrambled .now) ++ drop (11 * j) (a .out .now)) all
 
@@ -104,11 +110,13 @@ shape-spec =
     (tie.spec
     Inv-loop
     μ-loop
+    entries-requires
     loop-holds
     mul-number
     number-requires
-    cast-word
-    word-requires
+    slice-aggregate-word-in
+    cast-word-in
+    word-in-requires
     mul-at
     sub-write-number
     part-write-number-start
