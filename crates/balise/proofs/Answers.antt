@@ -1,5 +1,5 @@
 -- Whatever a call answers fits the fields of its number, and so is read back from it: B has twelve bits, esb and a turn have ten, a
--- count has 23, and a place is within the limit. Assumes nothing.
+-- count has 23, a place is within the limit, and a bad word is one of a telegram. Assumes nothing.
 use mathlib.Core.Path.{_≡_, refl, sym, ap, subst, _∙_}
 use mathlib.Core.Bool.{Bool, true, false, cond}
 use mathlib.Core.List.{List, _∷_}
@@ -10,29 +10,35 @@ use lib.ListN.{length, replicate, length-replicate}
 use Rattle.formats.specs.declared.format.Format.{Format}
 use Rattle.formats.specs.declared.format.Format.the-variants.{Long, Short}
 use Rattle.formats.specs.Numbers.{numbersOf}
-use Rattle.formats.proofs.Sizes.{telegram-between}
+use Rattle.formats.proofs.Sizes.{words-fill, telegram-between}
+use Rattle.words.specs.declared.BadWord.{BadWord}
+use Rattle.words.proofs.FourCases.{kind-small}
 use Rattle.refusals.specs.declared.Refusal.{Refusal}
+use Rattle.refusals.specs.declared.Refusal.the-variants.{NotWord}
 use Rattle.refusals.specs.Outcome.{Outcome, outcome}
-use Rattle.refusals.specs.Refused.{pairCount, refusalNumber, triedCount}
-use Rattle.refusals.specs.AnswerValues.{formatNumber, flippedNumber}
-use Rattle.refusals.proofs.Numbers.{number-fits}
+use Rattle.refusals.specs.Refused.{pairCount, refusalNumber, triedCount, badWordIn}
+use Rattle.refusals.specs.AnswerValues.{formatNumber, flippedNumber, refusalValues}
+use Rattle.refusals.proofs.Numbers.{number-fits, carried}
 use Rattle.encoder.specs.declared.Encoded.{Encoded}
 use Rattle.encoder.specs.declared.Encoded.the-variants.{Pair, Refused as NotEncoded}
 use Rattle.encoder.specs.Encoding.{encodedValues, encodeOf}
 use Rattle.encoder.proofs.Accepted.{encode-accepted}
 use Rattle.checker.specs.declared.Checked.{Checked}
 use Rattle.checker.specs.declared.Checked.the-variants.{Proper, Refused as NotProper}
-use Rattle.checker.specs.Checking.{checkedValues, checkOf}
+use Rattle.checker.specs.Checking.{checkedValues, formatOf as formatOfTelegram, checkOf}
+use Rattle.checker.proofs.Exact.{checks}
 use Rattle.maker.specs.declared.Made.{Made}
 use Rattle.maker.specs.declared.Made.the-variants.{Telegram, Refused as NotMade}
-use Rattle.maker.specs.Making.{madeValues, makeOf}
+use Rattle.maker.specs.Making.{madeValues, formatOf as formatOfBlock, makeOf}
+use Rattle.maker.proofs.Exact.{make-answers}
 use Rattle.reader.specs.declared.Asked.{Asked}
 use Rattle.reader.specs.declared.Asked.the-variants.{Proper}
 use Rattle.reader.specs.declared.Reading.{Reading}
 use Rattle.reader.specs.declared.ReadAnswer.{ReadAnswer}
 use Rattle.reader.specs.declared.ReadAnswer.the-variants.{Read, Refused as NotRead}
-use Rattle.reader.specs.Reads.{readingValues, readValues, readBy}
+use Rattle.reader.specs.Reads.{readingValues, readValues, formatOf as formatOfWindow, readBy}
 use Rattle.reader.proofs.Laws.{read-accepted}
+use Rattle.reader.proofs.NamesBadWord.{named-below}
 use Rattle.captures.specs.declared.Capture.{Capture}
 use Rattle.captures.specs.declared.Capture.the-variants.{Found, Refused as NotFound}
 use Rattle.captures.specs.Captures.{captureValues, windowAt, searchOf}
@@ -57,6 +63,14 @@ tried-fits refusal = go (eqb (refusalNumber refusal) 4)
     go true = omega arith
     go false = omega arith
 
+-- a refusal whose bad word, if it carries one, is a word of a telegram
+refusal-fits : (refusal : Refusal) (format : Format) → ((bad : BadWord) → refusal ≡ NotWord bad → bad .index < numbersOf format .words)
+    → Fits checkedSizes (refusalValues refusal)
+refusal-fits refusal format below =
+    let most : numbersOf format .words < 1024 = omega (arith, words-fill format, telegram-between format) in
+    let index : badWordIn refusal .index < 1024 = carried (λ bad. bad .index < 1024) refusal (omega arith) (λ bad e. omega (arith, below bad e)) in
+    search (arith, number-fits refusal, kind-small (badWordIn refusal .kind), index)
+
 -- ---- encode
 
 module _ (u out : List ℕ) where
@@ -76,11 +90,12 @@ module _ (u out : List ℕ) where
 
 module _ (b : List ℕ) where
   pub check-fits : Fits checkedSizes (checkedValues (checkOf b))
-  check-fits = go (checkOf b)
+  check-fits = go (checkOf b) refl
     where
-      go : (a : Checked) → Fits checkedSizes (checkedValues a)
-      go (Proper format) = search (arith, format-fits format)
-      go (NotProper refusal) = search (arith, number-fits refusal)
+      go : (a : Checked) → checkOf b ≡ a → Fits checkedSizes (checkedValues a)
+      go (Proper format) e = search (arith, format-fits format)
+      go (NotProper refusal) e =
+          refusal-fits refusal (formatOfTelegram b) (λ bad is. checks b .names bad .0 (e ∙ ap (λ (r : Refusal). NotProper r) is) .1 .among)
 
   pub check-back : ReadBack checkedSizes (checkedValues (checkOf b))
   check-back = fits-back checkedSizes (checkedValues (checkOf b)) check-fits
@@ -89,11 +104,13 @@ module _ (b : List ℕ) where
 
 module _ (u : List ℕ) (B esb : ℕ) (out : List ℕ) where
   pub make-fits : Fits madeSizes (madeValues (makeOf u B esb out .answer))
-  make-fits = go (makeOf u B esb out .answer)
+  make-fits = go (makeOf u B esb out .answer) refl
     where
-      go : (a : Made) → Fits madeSizes (madeValues a)
-      go (Telegram format) = search (arith, format-fits format)
-      go (NotMade refusal) = search (arith, number-fits refusal)
+      go : (a : Made) → makeOf u B esb out .answer ≡ a → Fits madeSizes (madeValues a)
+      go (Telegram format) e = search (arith, format-fits format)
+      go (NotMade refusal) e =
+          refusal-fits refusal (formatOfBlock u)
+          (λ bad is. make-answers u B esb out .names bad .0 (e ∙ ap (λ (r : Refusal). NotMade r) is) .1 .among)
 
   pub make-back : ReadBack madeSizes (madeValues (makeOf u B esb out .answer))
   make-back = fits-back madeSizes (madeValues (makeOf u B esb out .answer)) make-fits
@@ -111,7 +128,8 @@ module _ (asked : Asked) (w out : List ℕ) where
     where
       go : (a : ReadAnswer) → readBy asked w out .answer ≡ a → Fits readSizes (readValues a)
       go (Read reading) e = reading-fits reading e 0 (omega arith)
-      go (NotRead refusal) e = search (arith, number-fits refusal)
+      go (NotRead refusal) e =
+          refusal-fits refusal (formatOfWindow w) (λ bad is. named-below asked w out bad (e ∙ ap (λ (r : Refusal). NotRead r) is))
 
   -- what a call answered, and what it left in the output
   module _ (a : ReadAnswer) (o : List ℕ) (e : readBy asked w out ≡ outcome a o) where

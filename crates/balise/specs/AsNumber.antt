@@ -17,15 +17,17 @@ packed (size ∷ sizes) (v ∷ vs) = v + size * packed sizes vs
 abbrev pub encodedSizes : List ℕ
 encodedSizes = 256 ∷ 2 ∷ 4096 ∷ 1024 ∷ 8388608 ∷ []
 
--- bits 0 to 7 the number, 8 the format
+-- bits 0 to 7 the number, 8 the format; of refusal 9 bits 10 to 21 the kind's number and 22 to 31 the index of the first bad word
+-- (document 02, No. 13)
 abbrev pub checkedSizes : List ℕ
-checkedSizes = 256 ∷ 2 ∷ []
+checkedSizes = 256 ∷ 2 ∷ 2 ∷ 4096 ∷ 1024 ∷ []
 
 -- as check's
 abbrev pub madeSizes : List ℕ
 madeSizes = checkedSizes
 
--- bits 0 to 7 the number, 8 the format, 9 whether it was flipped, 10 to 21 B, 22 to 31 the turn, 32 to 47 the place, 48 to 57 esb
+-- bits 0 to 7 the number, 8 the format, 9 whether it was flipped, 10 to 21 B, 22 to 31 the turn, 32 to 47 the place, 48 to 57 esb; of
+-- refusal 9 as check's
 abbrev pub readSizes : List ℕ
 readSizes = 256 ∷ 2 ∷ 2 ∷ 4096 ∷ 1024 ∷ 65536 ∷ 1024 ∷ []
 

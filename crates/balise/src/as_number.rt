@@ -1,7 +1,7 @@
 // The answers of the public calls as numbers: their values, packed.
 ghost use mathlib.Core.Path.{_≡_};
 ghost use mathlib.Core.List.{[], _∷_};
-ghost use Rattle.refusals.specs.AnswerValues.{formatNumber, flippedNumber};
+ghost use Rattle.refusals.specs.AnswerValues.{formatNumber, flippedNumber, refusalValues};
 ghost use Rattle.encoder.specs.Encoding.{encodedValues};
 ghost use Rattle.checker.specs.Checking.{checkedValues};
 ghost use Rattle.maker.specs.Making.{madeValues};
@@ -16,6 +16,7 @@ use formats::format::Format;
 use maker::Made;
 use reader::ReadAnswer;
 use reader::Reading;
+use refusals::Refusal;
 
 // The format: 0 long, 1 short.
 fn format_number(format: Format) -> u8
@@ -32,6 +33,18 @@ fn flipped_number(flipped: bool) -> u8
     ensures { λ r. ⌜ r ≡ flippedNumber flipped ⌝ }
 {
     if flipped { 1 } else { 0 }
+}
+
+// The fields of a refusal: its number, and of the bad word that 9 carries the kind and the index.
+fn refusal_fields(refusal: Refusal) -> u64
+    requires { ⌜ Fits checkedSizes (refusalValues refusal) ⌝ }
+    ensures { λ r. ⌜ r ≡ packed checkedSizes (refusalValues refusal) ⌝ }
+{
+    let number = refusals::number(refusal) as u64;
+    let bad = refusals::bad_word(refusal);
+    let kind = bad.kind;
+    let index = bad.index as u64;
+    number + 1024 * (words::kind_number(kind) as u64 + 4096 * index)
 }
 
 // The fields of the encoder's answer.
@@ -77,20 +90,22 @@ pub fn encoded(answer: Encoded) -> u64
 }
 
 pub fn checked(answer: Checked) -> u64
+    requires { ⌜ Fits checkedSizes (checkedValues answer) ⌝ }
     ensures { λ r. ⌜ r ≡ packed checkedSizes (checkedValues answer) ⌝ }
 {
     match answer {
         Checked::Proper(format) => 256 * (format_number(format) as u64),
-        Checked::Refused(refusal) => refusals::number(refusal) as u64,
+        Checked::Refused(refusal) => refusal_fields(refusal),
     }
 }
 
 pub fn made(answer: Made) -> u64
+    requires { ⌜ Fits madeSizes (madeValues answer) ⌝ }
     ensures { λ r. ⌜ r ≡ packed madeSizes (madeValues answer) ⌝ }
 {
     match answer {
         Made::Telegram(format) => 256 * (format_number(format) as u64),
-        Made::Refused(refusal) => refusals::number(refusal) as u64,
+        Made::Refused(refusal) => refusal_fields(refusal),
     }
 }
 
@@ -101,7 +116,7 @@ pub fn read(answer: ReadAnswer) -> u64
 {
     match answer {
         ReadAnswer::Read(reading) => found_fields(reading, 0),
-        ReadAnswer::Refused(refusal) => refusals::number(refusal) as u64,
+        ReadAnswer::Refused(refusal) => refusal_fields(refusal),
     }
 }
 

@@ -4,7 +4,7 @@ use mathlib.Core.Path.{_≡_, refl, sym, ap, ap₂, _∙_}
 use mathlib.Core.Bool.{Bool}
 use mathlib.Core.List.{List, [], _++_, append-nil, append-assoc}
 use Prim.Native.Nat.{ℕ, zero, suc, _+_, _-_, _*_, _≤_, _<_}
-use native.Mathlib.Nat.{zero-add, suc-add, add-comm, mul-zero, mul-suc}
+use native.Mathlib.Nat.{zero-add, suc-add, add-comm, mul-zero, mul-suc, le-of-suc-le-suc, not-suc-le-zero}
 use native.Mathlib.Omega.{arith}
 use lib.Dec.{T}
 use lib.ListN.{length, take, drop, length-append, length-drop}
@@ -108,6 +108,15 @@ module _ (test : List ℕ → Bool) (w : ℕ) where
   every-group passes zero s bits = tt
   every-group passes (suc k) s bits =
       and-of (test (take w s)) (everyGroup test w k (drop w s)) (passes s bits) (every-group passes k (drop w s) (allBits-drop w s bits))
+
+  -- where all of them do, each does
+  pub every-at : (k : ℕ) (s : List ℕ) → T (everyGroup test w k s) → (i : ℕ) → i < k → T (test (take w (drop (w * i) s)))
+  unfolding overGroups
+  every-at zero s h i below = absurd (not-suc-le-zero below)
+  every-at (suc k) s h zero below = rw mul-zero (and-left (test (take w s)) (everyGroup test w k (drop w s)) h)
+  every-at (suc k) s h (suc i) below =
+      rw (drop-from w (w * i) (w * suc i) s (one-more w i))
+      (every-at k (drop w s) (and-right (test (take w s)) (everyGroup test w k (drop w s)) h) i (le-of-suc-le-suc below))
 
   -- f leaves such a group as it is
   pub groups-stay : (f : List ℕ → List ℕ) → ((s : List ℕ) → T (allBits s) → w ≤ length s → T (test (take w s)) → f (take w s) ≡ take w s)

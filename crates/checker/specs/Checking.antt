@@ -1,4 +1,4 @@
--- What checking a telegram answers (document 01, "When the bench says no").
+-- What checking a telegram answers (document 01, "When the bench says no"; document 02, No. 13).
 -- Assumes nothing.
 use Prim.Native.Nat.{ℕ}
 use mathlib.Core.Bool.{not}
@@ -10,20 +10,20 @@ use Rattle.formats.specs.declared.format.Format.{Format}
 use Rattle.formats.specs.Numbers.{short, numbersOf, formatFor}
 use Rattle.refusals.specs.declared.Refusal.{Refusal}
 use Rattle.refusals.specs.declared.Refusal.the-variants.{Length, NotBit, NotDivisible, NoTurn, Control, NotWord}
-use Rattle.refusals.specs.Refused.{refusalNumber}
 use Rattle.refusals.specs.Table.{Row, _when_, verdict, answerBy}
-use Rattle.refusals.specs.AnswerValues.{formatNumber}
+use Rattle.refusals.specs.AnswerValues.{formatNumber, refusalValues}
 use Rattle.cyclic.specs.Check.{divisible, unturned}
 use Rattle.telegrams.specs.Telegram.{control}
 use Rattle.telegrams.specs.Fields.{controlOf, allWords}
+use Rattle.telegrams.specs.Worded.{badWord}
 use Rattle.conditions.specs.FirstFailing.{conditionTable}
 use Rattle.checker.specs.declared.Checked.{Checked}
 use Rattle.checker.specs.declared.Checked.the-variants.{Proper, Refused}
 
--- the values of each answer: the number, 0 where nothing is refused, and the format
+-- the values of each answer: the number, 0 where nothing is refused, and the format; or those of the refusal
 abbrev pub checkedValues : Checked → List ℕ
 checkedValues (Proper format) = 0 ∷ formatNumber format ∷ []
-checkedValues (Refused refusal) = refusalNumber refusal ∷ []
+checkedValues (Refused refusal) = refusalValues refusal
 
 -- the format that the number of bytes picks
 abbrev pub formatOf : List ℕ → Format
@@ -38,7 +38,7 @@ checkTable format b =
     ∷ NotDivisible when not (divisible F b)
     ∷ NoTurn when not (unturned F b)
     ∷ Control when not (same (controlOf F b) control)
-    ∷ NotWord when not (allWords (F .words) b)
+    ∷ NotWord (badWord (F .words) b) when not (allWords (F .words) b)
     ∷ conditionTable format b
 
 unfoldable pub checkAs : Format → List ℕ → Checked

@@ -1,4 +1,5 @@
-// Checking a telegram (document 01, "When the bench says no": refusals 1, 2 and 6 to 12, the lowest that applies).
+// Checking a telegram (document 01, "When the bench says no": refusals 1, 2 and 6 to 12, the lowest that applies;
+// document 02, No. 13).
 ghost use mathlib.Core.Path.{_≡_};
 ghost use lib.Dec.{T};
 ghost use lib.ListN.{length};
@@ -13,6 +14,7 @@ use formats::format::Format;
 use formats::format::Short;
 use refusals::Refusal;
 use telegrams::fields;
+use telegrams::fields::Worded;
 
 // What checking a telegram answers.
 pub enum Checked {
@@ -46,8 +48,8 @@ fn check_form(format: Format, telegram: &[u8]) -> Checked
     if !fields::has_control(format, telegram) {
         return Checked::Refused(Refusal::Control);
     }
-    if !fields::all_words(telegram, format::words(format)) {
-        return Checked::Refused(Refusal::NotWord);
+    if let Worded::NotWord(bad) = fields::go_through(telegram, format::words(format)) {
+        return Checked::Refused(Refusal::NotWord(bad));
     }
     check_conditions(format, telegram)
 }

@@ -1,6 +1,6 @@
 -- How values that are no numbers are passed to and from another language.
 -- Assumes nothing.
-use Prim.Native.Nat.{ℕ, _/_, _%_, _^_}
+use Prim.Native.Nat.{ℕ, _+_, _/_, _%_, _^_}
 use mathlib.Core.Bool.{Bool, true, false}
 use mathlib.Core.List.{List, [], _∷_}
 use Rattle.formats.specs.Numbers.{Numbers, numbersOf}
@@ -8,6 +8,7 @@ use Rattle.formats.specs.declared.format.Format.{Format}
 use Rattle.formats.specs.declared.format.Format.the-variants.{Long, Short}
 use Rattle.words.specs.declared.Lookup.{Lookup}
 use Rattle.words.specs.declared.Lookup.the-variants.{Number, NotInTable}
+use Rattle.words.specs.Words.{kindNumber}
 use Rattle.cyclic.specs.declared.Turn.{Turn}
 use Rattle.cyclic.specs.declared.Turn.the-variants.{At, Nothing}
 
@@ -20,10 +21,10 @@ formatOf false = Short
 abbrev pub numbers : Bool → Numbers
 numbers isLong = numbersOf (formatOf isLong)
 
--- the number that a look-up finds, or 1024
-abbrev pub numberOr1024 : Lookup → ℕ
-numberOr1024 (Number i) = i
-numberOr1024 NotInTable = 1024
+-- the number that a look-up finds, or 1024 and the number of the kind
+abbrev pub numberOrKind : Lookup → ℕ
+numberOrKind (Number i) = i
+numberOrKind (NotInTable kind) = 1024 + kindNumber kind
 
 -- the turn, or n where there is none
 abbrev pub turnOr : ℕ → Turn → ℕ

@@ -14,7 +14,7 @@ ghost use Rattle.scrambling.specs.Sum.{withSum, withoutSum};
 ghost use Rattle.cyclic.specs.Remainder.{remainder};
 ghost use Rattle.cyclic.specs.Check.{checkBits, turnOf};
 ghost use Rattle.conditions.specs.Conditions.{offStepWithin, notRepeating, thinnedWithin};
-ghost use Rattle.layers.specs.Crossing.{formatOf, numbers, numberOr1024, turnOr, twoWords};
+ghost use Rattle.layers.specs.Crossing.{formatOf, numbers, numberOrKind, turnOr, twoWords};
 use conditions::off_step;
 use conditions::repeating;
 use conditions::thinned;
@@ -71,15 +71,15 @@ pub extern "C" fn balise_layers_word(i: u16) -> u16
     words::word(i)
 }
 
-// The number of a word, or 1024 where the table does not have it.
+// The number of a word, or 1024 and the number of its kind where the table does not have it.
 #[no_mangle]
 pub extern "C" fn balise_layers_look_up(word: u16) -> u16
-    ensures { λ r. ⌜ r ≡ numberOr1024 (lookupOf word) ⌝ }
+    ensures { λ r. ⌜ r ≡ numberOrKind (lookupOf word) ⌝ }
 {
     let found = words::look_up(word);
     match found {
         Lookup::Number(i) => i,
-        Lookup::NotInTable => 1024,
+        Lookup::NotInTable(kind) => 1024 + words::kind_number(kind),
     }
 }
 

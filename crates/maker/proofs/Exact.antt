@@ -2,14 +2,17 @@
 -- there is one. Assumes nothing.
 use mathlib.Core.Path.{_≡_, refl, sym, ap, subst, _∙_}
 use mathlib.Core.List.{List}
-use Prim.Native.Nat.{ℕ}
+use mathlib.Core.Logic.{_↔_}
+use Prim.Native.Nat.{ℕ, _≤_}
 use lib.Dec.{T}
 use lib.ListN.{length, drop}
 use Rattle.bits.proofs.Tests.{is-true, clash}
 use Rattle.formats.specs.declared.format.Format.{Format}
-use Rattle.formats.specs.Numbers.{numbersOf}
+use Rattle.formats.specs.Numbers.{numbersOf, blocks}
 use Rattle.formats.proofs.Sizes.{sizesOf}
+use Rattle.words.specs.declared.BadWord.{BadWord}
 use Rattle.refusals.specs.declared.Refusal.{Refusal}
+use Rattle.refusals.specs.declared.Refusal.the-variants.{NotWord}
 use Rattle.refusals.specs.Table.{refused, accepted}
 use Rattle.refusals.specs.Outcome.{Outcome, FrontWritten}
 use Rattle.refusals.proofs.Table.{refuses-in-order}
@@ -17,13 +20,15 @@ use Rattle.refusals.proofs.Fronts.{front-written, fronts-same}
 use Rattle.cyclic.proofs.Formats.{factsOf}
 use Rattle.telegrams.specs.Telegram.{telegramOf}
 use Rattle.telegrams.specs.Fields.{allWords, wellFormed}
-use Rattle.telegrams.proofs.Made.{length-made, scrambling-made, shaping-made, userBits-made}
+use Rattle.telegrams.specs.Worded.{IsFirstBad}
+use Rattle.telegrams.proofs.FirstBad.{first-bad, first-bad-after}
+use Rattle.telegrams.proofs.Made.{length-made, words-made, scrambling-made, shaping-made, userBits-made}
 use Rattle.telegrams.proofs.WellFormed.{parts, remade, made-by-words}
 use Rattle.maker.specs.declared.Made.{Made}
 use Rattle.maker.specs.declared.Made.the-variants.{Telegram, Refused}
 use Rattle.maker.specs.Making.{formatOf, makeTable, wrote, makeOf}
 use Rattle.maker.specs.Makes.{InOrder, Carries, MakeAnswers, MakesExactly}
-use Rattle.maker.proofs.Steps.{telegram-made, accepted-in-order, said, by-verdict, tells}
+use Rattle.maker.proofs.Steps.{word-refused, telegram-made, accepted-in-order, refused-in-order, said, by-verdict, tells}
 
 -- only a refusal tells that it is one
 only : (a : Made) (r : Refusal) → said a ≡ refused r → a ≡ Refused r
@@ -90,6 +95,24 @@ module _ (u : List ℕ) (B esb : ℕ) (out : List ℕ) where
       let is = only-one format b c in
       makes format in-order (subst (λ (t : List ℕ). T (wellFormed F t)) is (c .well-formed)) ∙ ap (λ (t : List ℕ). wrote format t out) (sym is)
 
+  -- ---- the bad word that refusal 9 carries
+
+  names : (bad : BadWord) → (makeOf u B esb out .answer ≡ Refused (NotWord bad))
+      ↔ (let F = numbersOf (formatOf u) in InOrder (formatOf u) u B esb out × IsFirstBad (F .words) (telegramOf F u B esb) bad)
+  names bad =
+      let F = numbersOf (formatOf u) in (
+        λ e. refused-in-order (formatOf u) u B esb out bad (sym (tells u B esb out) ∙ ap said e),
+        λ p.
+            let (some, is) = first-bad (telegramOf F u B esb) (F .words) bad .1 (p .1) in
+            ap (λ (x : Outcome Made). x .answer) (word-refused (formatOf u) u B esb out (p .0) some) ∙ ap (λ (x : BadWord). Refused (NotWord x)) is,
+      )
+
+  last-ten : (bad : BadWord) → makeOf u B esb out .answer ≡ Refused (NotWord bad) → blocks (numbersOf (formatOf u)) ≤ bad .index
+  last-ten bad e =
+      let format = formatOf u in
+      let F = numbersOf format in
+      first-bad-after (telegramOf F u B esb) (F .words) (blocks F) (words-made F (factsOf format) (sizesOf format) u B esb) bad (names bad .0 e .1)
+
   -- ---- all of it
 
   front-over : (format : Format) → makeOf u B esb out .answer ≡ Telegram format
@@ -105,6 +128,8 @@ module _ (u : List ℕ) (B esb : ℕ) (out : List ℕ) where
         refuses =
             refuses-in-order Refused said (λ r. refl) only (makeTable (formatOf u) (length out) u B esb) (makeOf u B esb out .answer)
             (tells u B esb out);
+        names = names;
+        lastTen = last-ten;
         keeps = λ r e. ap (λ (x : Outcome Made). x .output) (by-verdict u B esb out (refused r) (sym (tells u B esb out) ∙ ap said e));
         writes = front-over;
       }

@@ -3,21 +3,25 @@ use mathlib.Core.Path.{_≡_, refl, sym, ap, _∙_}
 use mathlib.Core.Bool.{true, false, not}
 use mathlib.Core.List.{List, [], _∷_}
 use Prim.Native.Nat.{ℕ, _<_}
-use borrow.Author.Tests.{not-false, eqb-true, leb-true, le-leb, lt-leb, eq-eqb, ne-eqb}
-use lib.Dec.{T, eqb}
+use borrow.Author.Tests.{not-true, not-false, eqb-true, leb-true, le-leb, lt-leb, eq-eqb, ne-eqb}
+use lib.Dec.{T, eqb, leb}
 use lib.ListN.{length}
 use Rattle.bits.specs.Bits.{allBits}
 use Rattle.bits.proofs.Tests.{is-true, holds}
 use Rattle.formats.specs.declared.format.Format.{Format}
 use Rattle.formats.specs.Numbers.{Numbers, numbersOf}
 use Rattle.formats.proofs.Fits.{picks, blocks-apart}
+use Rattle.words.specs.declared.BadWord.{BadWord}
 use Rattle.refusals.specs.declared.Refusal.{Refusal}
 use Rattle.refusals.specs.declared.Refusal.the-variants.{Length, NotBit, PairTooLarge, OutputShort, NotWord}
-use Rattle.refusals.specs.Table.{_when_, Verdict, refused, accepted, verdict, outcomeBy}
+use Rattle.refusals.specs.Refused.{refusalNumber}
+use Rattle.refusals.specs.Table.{_when_, Verdict, refused, accepted, verdict, outcomeBy, risesAbove}
 use Rattle.refusals.specs.Outcome.{Outcome, outcome}
-use Rattle.refusals.proofs.Table.{Decides, passed, failed, all-passed, NoRow, accepted-no-row, answer-by, answer-said}
+use Rattle.refusals.proofs.Table.{Decides, passed, failed, all-passed, NoRow, accepted-no-row, answer-by, answer-said, refused-first, later-row, this-row}
 use Rattle.telegrams.specs.Telegram.{isPair, telegramOf}
 use Rattle.telegrams.specs.Fields.{allWords}
+use Rattle.telegrams.specs.Worded.{badWord, IsFirstBad}
+use Rattle.telegrams.proofs.FirstBad.{first-bad}
 use Rattle.telegrams.proofs.Pair.{pair-below}
 use Rattle.maker.specs.declared.Made.{Made}
 use Rattle.maker.specs.declared.Made.the-variants.{Telegram, Refused}
@@ -65,7 +69,8 @@ module _ (format : Format) (u : List ℕ) (B esb : ℕ) (out : List ℕ) where
 
   module _ (in-order : InOrder format u B esb out) where
     -- the rows before the last are passed
-    past : (v : Verdict Refusal) → Decides ((NotWord when not (allWords (numbersOf format .words) (telegramOf (numbersOf format) u B esb))) ∷ []) v
+    past : let F = numbersOf format in
+        (v : Verdict Refusal) → Decides ((NotWord (badWord (F .words) (telegramOf F u B esb)) when not (allWords (F .words) (telegramOf F u B esb))) ∷ []) v
         → makeOf u B esb out ≡ outcomeBy Refused out (wrote format (telegramOf (numbersOf format) u B esb) out) v
     unfolding makeTable
     past v d =
@@ -76,8 +81,9 @@ module _ (format : Format) (u : List ℕ) (B esb : ℕ) (out : List ℕ) where
         (passed (le-leb (numbersOf format .n) (length out) (in-order .room)) d))))
 
     -- a word is not in the table
-    pub word-refused : allWords (numbersOf format .words) (telegramOf (numbersOf format) u B esb) ≡ false → makeOf u B esb out ≡ outcome (Refused NotWord) out
-    word-refused e = past (refused NotWord) (failed e)
+    pub word-refused : let F = numbersOf format in
+        allWords (F .words) (telegramOf F u B esb) ≡ false → makeOf u B esb out ≡ outcome (Refused (NotWord (badWord (F .words) (telegramOf F u B esb)))) out
+    word-refused e = past _ (failed e)
 
     -- all are
     pub telegram-made : allWords (numbersOf format .words) (telegramOf (numbersOf format) u B esb) ≡ true
@@ -86,22 +92,44 @@ module _ (format : Format) (u : List ℕ) (B esb : ℕ) (out : List ℕ) where
 
 -- ---- the whole table
 
--- what no refusal applies to
-pub accepted-in-order : (format : Format) (u : List ℕ) (B esb : ℕ) (out : List ℕ) → verdict (makeTable format (length out) u B esb) ≡ accepted
-    → InOrder format u B esb out × T (allWords (numbersOf format .words) (telegramOf (numbersOf format) u B esb))
-unfolding makeTable NoRow
-accepted-in-order format u B esb out e =
-    let (size, (bits, (pair, (room, (words, end))))) = accepted-no-row (makeTable format (length out) u B esb) e in
-    let below = pair-below B esb .0 (holds (isPair B esb) (not-false _ pair)) in (
+-- the rows before the last do not apply
+module _ (format : Format) (u : List ℕ) (B esb : ℕ) (out : List ℕ) where
+  rows-in-order : let F = numbersOf format in
+      not (eqb (length u) (F .m)) ≡ false → not (allBits u) ≡ false → not (isPair B esb) ≡ false → not (leb (F .n) (length out)) ≡ false
+      → InOrder format u B esb out
+  rows-in-order size bits pair room =
+      let below = pair-below B esb .0 (holds (isPair B esb) (not-false _ pair)) in
       record {
         size = eqb-true (length u) (numbersOf format .m) (not-false _ size);
         bits = holds (allBits u) (not-false _ bits);
         scrambling = below .0;
         shaping = below .1;
         room = leb-true (numbersOf format .n) (length out) (not-false _ room);
-      },
-      holds (allWords (numbersOf format .words) (telegramOf (numbersOf format) u B esb)) (not-false _ words),
-    )
+      }
+
+  -- what no refusal applies to
+  pub accepted-in-order : verdict (makeTable format (length out) u B esb) ≡ accepted
+      → InOrder format u B esb out × T (allWords (numbersOf format .words) (telegramOf (numbersOf format) u B esb))
+  unfolding makeTable NoRow
+  accepted-in-order e =
+      let (size, (bits, (pair, (room, (words, end))))) = accepted-no-row (makeTable format (length out) u B esb) e in (
+        rows-in-order size bits pair room,
+        holds (allWords (numbersOf format .words) (telegramOf (numbersOf format) u B esb)) (not-false _ words),
+      )
+
+  -- what is refused with 9
+  pub refused-in-order : (bad : BadWord) → verdict (makeTable format (length out) u B esb) ≡ refused (NotWord bad)
+      → InOrder format u B esb out × IsFirstBad (numbersOf format .words) (telegramOf (numbersOf format) u B esb) bad
+  unfolding makeTable risesAbove
+  refused-in-order bad e =
+      let F = numbersOf format in
+      let words = allWords (F .words) (telegramOf F u B esb) in
+      let (size, f) = later-row refusalNumber tt (refused-first (makeTable format (length out) u B esb) (NotWord bad) e) in
+      let (bits, f) = later-row refusalNumber tt f in
+      let (pair, f) = later-row refusalNumber tt f in
+      let (room, f) = later-row refusalNumber tt f in
+      let (is, some) = this-row refusalNumber tt f in
+      (rows-in-order size bits pair room, first-bad (telegramOf F u B esb) (F .words) bad .0 (not-true words (is-true (not words) some), cc))
 
 -- the verdict that an answer tells
 abbrev pub said : Made → Verdict Refusal

@@ -1,4 +1,4 @@
--- What making a telegram means (document 02, No. 11; the request, demand 1).
+-- What making a telegram means (document 02, No. 11 and No. 13; the request, demand 1).
 -- Assumes nothing.
 use Prim.Native.Nat.{ℕ, _≤_, _<_}
 use mathlib.Core.Path.{_≡_}
@@ -8,12 +8,15 @@ use lib.Dec.{T}
 use lib.ListN.{length}
 use Rattle.bits.specs.Bits.{allBits}
 use Rattle.formats.specs.declared.format.Format.{Format}
-use Rattle.formats.specs.Numbers.{numbersOf}
+use Rattle.formats.specs.Numbers.{numbersOf, blocks}
+use Rattle.words.specs.declared.BadWord.{BadWord}
 use Rattle.refusals.specs.declared.Refusal.{Refusal}
+use Rattle.refusals.specs.declared.Refusal.the-variants.{NotWord}
 use Rattle.refusals.specs.Table.{RefusesInOrder}
 use Rattle.refusals.specs.Outcome.{FrontWritten}
 use Rattle.telegrams.specs.Telegram.{telegramOf}
 use Rattle.telegrams.specs.Fields.{scramblingOf, shapingOf, userBitsOf, wellFormed}
+use Rattle.telegrams.specs.Worded.{IsFirstBad}
 use Rattle.maker.specs.declared.Made.the-variants.{Telegram, Refused}
 use Rattle.maker.specs.Making.{formatOf, makeTable, wrote, makeOf}
 
@@ -36,6 +39,12 @@ pub record Carries (format : Format) (b u : List ℕ) (B esb : ℕ) : Type 0 whe
 pub record MakeAnswers (u : List ℕ) (B esb : ℕ) (out : List ℕ) : Type 0 where
   -- document 02: "Refusals are 1, 2, 27 for B or esb too large, 3, then 9": the first in this order that applies, and none otherwise
   pub refuses : RefusesInOrder Refused (makeTable (formatOf u) (length out) u B esb) (makeOf u B esb out .answer)
+  -- document 02, No. 13: "telegram-making calls carry the two facts too": 9 with this kind and index exactly where the input is in order and
+  -- this is the first word of the telegram that is not in the table
+  pub names : (bad : BadWord) → (makeOf u B esb out .answer ≡ Refused (NotWord bad))
+      ↔ (let F = numbersOf (formatOf u) in InOrder (formatOf u) u B esb out × IsFirstBad (F .words) (telegramOf F u B esb) bad)
+  -- it is one of the last ten words: those of the shaped data come from the table
+  pub lastTen : (bad : BadWord) → makeOf u B esb out .answer ≡ Refused (NotWord bad) → blocks (numbersOf (formatOf u)) ≤ bad .index
   -- "outputs keep every byte"
   pub keeps : (r : Refusal) → makeOf u B esb out .answer ≡ Refused r → makeOf u B esb out .output ≡ out
   -- "Success writes exactly the first n or m bytes; longer outputs keep their tails."

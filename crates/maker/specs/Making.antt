@@ -1,4 +1,4 @@
--- What making a telegram from a block, B and esb answers, and what the output holds afterwards (document 02, No. 11).
+-- What making a telegram from a block, B and esb answers, and what the output holds afterwards (document 02, No. 11 and No. 13).
 -- Assumes nothing.
 use Prim.Native.Nat.{ℕ}
 use mathlib.Core.Bool.{not}
@@ -10,19 +10,19 @@ use Rattle.formats.specs.declared.format.Format.{Format}
 use Rattle.formats.specs.Numbers.{short, numbersOf, formatFor}
 use Rattle.refusals.specs.declared.Refusal.{Refusal}
 use Rattle.refusals.specs.declared.Refusal.the-variants.{Length, NotBit, PairTooLarge, OutputShort, NotWord}
-use Rattle.refusals.specs.Refused.{refusalNumber}
 use Rattle.refusals.specs.Table.{Row, _when_, verdict, outcomeBy}
 use Rattle.refusals.specs.Outcome.{Outcome, outcome}
-use Rattle.refusals.specs.AnswerValues.{formatNumber}
+use Rattle.refusals.specs.AnswerValues.{formatNumber, refusalValues}
 use Rattle.telegrams.specs.Telegram.{isPair, telegramOf}
 use Rattle.telegrams.specs.Fields.{allWords}
+use Rattle.telegrams.specs.Worded.{badWord}
 use Rattle.maker.specs.declared.Made.{Made}
 use Rattle.maker.specs.declared.Made.the-variants.{Telegram, Refused}
 
--- the values of each answer: the number, 0 where nothing is refused, and the format
+-- the values of each answer: the number, 0 where nothing is refused, and the format; or those of the refusal
 abbrev pub madeValues : Made → List ℕ
 madeValues (Telegram format) = 0 ∷ formatNumber format ∷ []
-madeValues (Refused refusal) = refusalNumber refusal ∷ []
+madeValues (Refused refusal) = refusalValues refusal
 
 -- the format that the block's length picks
 abbrev pub formatOf : List ℕ → Format
@@ -37,7 +37,7 @@ makeTable format room u B esb =
     ∷ NotBit when not (allBits u)
     ∷ PairTooLarge when not (isPair B esb)
     ∷ OutputShort when not (leb (F .n) room)
-    ∷ NotWord when not (allWords (F .words) (telegramOf F u B esb))
+    ∷ NotWord (badWord (F .words) (telegramOf F u B esb)) when not (allWords (F .words) (telegramOf F u B esb))
     ∷ []
 
 -- the format, and b over the front of the output

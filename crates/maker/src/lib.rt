@@ -1,4 +1,4 @@
-// Making a telegram from a block of user bits, B and esb, without a search (document 02, No. 11).
+// Making a telegram from a block of user bits, B and esb, without a search (document 02, No. 11 and No. 13).
 ghost use mathlib.Core.Path.{_≡_};
 ghost use Rattle.refusals.specs.Outcome.{outcome};
 ghost use Rattle.maker.specs.Making.{makeOf};
@@ -9,6 +9,7 @@ use formats::format::Long;
 use formats::format::Short;
 use refusals::Refusal;
 use telegrams::fields;
+use telegrams::fields::Worded;
 use telegrams::making;
 
 // What making a telegram answers: its format, or a refusal.
@@ -27,8 +28,8 @@ fn write_telegram(format: Format, block: &[u8], b: u16, esb: u16, output: &mut [
     making::make(format, block, b, esb, &mut telegram);
     let n = format::telegram_bits(format);
     let words = format::words(format);
-    if !fields::all_words(&telegram[..n], words) {
-        return Made::Refused(Refusal::NotWord);
+    if let Worded::NotWord(bad) = fields::go_through(&telegram[..n], words) {
+        return Made::Refused(Refusal::NotWord(bad));
     }
     bytes::copy(&telegram[..n], output);
     Made::Telegram(format)

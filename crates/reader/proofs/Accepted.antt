@@ -30,6 +30,19 @@ pub record Passed (asked : Asked) (format : Format) (w : List ℕ) : Type 0 wher
   pub worded : allWords (numbersOf format .words) (telegramIn (numbersOf format) (turnIn (numbersOf format) w) w) ≡ true
   pub as-asked : verdict (askedTable asked format (telegramIn (numbersOf format) (turnIn (numbersOf format) w) w)) ≡ accepted
 
+-- a window of the format has passed the tests up to the control bits
+pub record Placed (format : Format) (w : List ℕ) : Type 0 where
+  pub size : length w ≡ windowBits (numbersOf format)
+  pub bits : allBits w ≡ true
+  pub ends : endsAgree (numbersOf format) w ≡ true
+  pub divided : divisible (numbersOf format) (take (numbersOf format .n) w) ≡ true
+  pub turn : isTurn (turnFound (numbersOf format) w) ≡ true
+  pub controlled : same (controlOf (numbersOf format) (telegramIn (numbersOf format) (turnIn (numbersOf format) w) w)) control ≡ true
+
+pub placed : (asked : Asked) (format : Format) (w : List ℕ) → Passed asked format w → Placed format w
+placed asked format w p =
+    record { size = p .size; bits = p .bits; ends = p .ends; divided = p .divided; turn = p .turn; controlled = p .controlled }
+
 module _ (asked : Asked) (format : Format) (room : ℕ) (w : List ℕ) where
   -- where no refusal applies there is room, and every test is passed
   pub accepted-passed : verdict (readTable asked format room w) ≡ accepted → (numbersOf format .m ≤ room) × Passed asked format w

@@ -23,14 +23,15 @@ use Rattle.cyclic.specs.Check.{gPadded, turned, turnOf, divisible}
 use Rattle.cyclic.proofs.Laws.{Facts, zeros, turned-back, turned-reads, flip-fg, turnOf-turn}
 use Rattle.cyclic.proofs.Formats.{factsOf}
 use Rattle.telegrams.specs.Telegram.{control}
-use Rattle.telegrams.specs.Fields.{controlOf, scramblingOf, shapingOf, allWords, userBitsOf, wellFormed}
+use Rattle.telegrams.specs.Fields.{controlOf, allWords, userBitsOf, wellFormed}
 use Rattle.telegrams.proofs.Checked.{checked-remainder}
-use Rattle.telegrams.proofs.WellFormed.{parts}
+use Rattle.telegrams.specs.Worded.{ControlAndCheck}
+use Rattle.telegrams.proofs.WellFormed.{parts, but-words}
 use Rattle.reader.specs.declared.Asked.{Asked}
 use Rattle.reader.specs.declared.Reading.{Reading}
-use Rattle.reader.specs.Windows.{oriented}
+use Rattle.reader.specs.Windows.{oriented, cut}
 use Rattle.reader.specs.Reads.{endsAgree, turnFound, isTurn, turnIn, isFlipped, turnedBack, telegramIn, readingOf, readingIn, userBitsIn, askedTable, readsAs}
-use Rattle.reader.specs.CutFrom.{isAsked, CutFrom}
+use Rattle.reader.specs.CutFrom.{CutFrom}
 use Rattle.reader.proofs.Ends.{ends-agree}
 use Rattle.reader.proofs.Windows.{length-oriented, bits-oriented, oriented-twice, cut-oriented, ring-front, ring-ends}
 use Rattle.reader.proofs.AsAsked.{asked-tested}
@@ -44,14 +45,17 @@ pub oriented-fg : (F : Numbers) → Facts F → (flipped : Bool) (b : List ℕ) 
 oriented-fg F A true b bits size = flip-fg F A b bits size
 oriented-fg F A false b bits size = refl
 
--- so a well-formed telegram leaves g by f*g, upright or flipped
-pub formed-code : (format : Format) (flipped : Bool) (b : List ℕ) → T (wellFormed (numbersOf format) b)
+-- so a telegram with the check bits leaves g by f*g, upright or flipped
+checked-code : (format : Format) (flipped : Bool) (b : List ℕ) → ControlAndCheck (numbersOf format) b
     → remainder (fgOf (numbersOf format)) (oriented flipped b) ≡ gPadded (numbersOf format)
-formed-code format flipped b formed =
+checked-code format flipped b h =
     let F = numbersOf format in
     let A = factsOf format in
-    let h = parts F b formed in
     oriented-fg F A flipped b (h .bits) (h .size) ∙ checked-remainder F A (sizesOf format) b (h .bits) (h .size) .0 (h .check)
+
+pub formed-code : (format : Format) (flipped : Bool) (b : List ℕ) → T (wellFormed (numbersOf format) b)
+    → remainder (fgOf (numbersOf format)) (oriented flipped b) ≡ gPadded (numbersOf format)
+formed-code format flipped b formed = let F = numbersOf format in checked-code format flipped b (but-words F b (parts F b formed))
 
 -- b109 of a telegram whose control bits are 0, 0, 1
 control-first : (F : Numbers) (b : List ℕ) → controlOf F b ≡ control → getD b (F .n - 110) 0 ≡ 0
@@ -109,7 +113,46 @@ module _ (format : Format) (x : List ℕ) (t : ℕ) (bits : T (allBits x)) (size
       let round : numbersOf format .n - t + t ≡ length x = omega arith in
       ap (turned (numbersOf format .n - t)) ring-turned ∙ turned-back (numbersOf format .n - t) t x round
 
--- ---- the window cut from a telegram
+-- ---- the window cut from a telegram with the control and the check bits
+
+module _ (format : Format) (b : List ℕ) (t : ℕ) (flipped : Bool) (h : ControlAndCheck (numbersOf format) b) (below : t < numbersOf format .n) where
+  -- where and which way up it is found, and which telegram
+  pub record Found (w : List ℕ) : Type 0 where
+    pub size : length w ≡ windowBits (numbersOf format)
+    pub bits : allBits w ≡ true
+    pub ends : endsAgree (numbersOf format) w ≡ true
+    pub divided : divisible (numbersOf format) (take (numbersOf format .n) w) ≡ true
+    pub turn : turnFound (numbersOf format) w ≡ At t
+    pub flip : isFlipped (numbersOf format) (turnedBack (numbersOf format) t w) ≡ flipped
+    pub telegram : telegramIn (numbersOf format) t w ≡ b
+
+  ring-found : Found (around (windowBits (numbersOf format)) t (oriented flipped b))
+  unfolding telegramIn
+  ring-found =
+      let F = numbersOf format in
+      let x = oriented flipped b in
+      let w = around (windowBits F) t x in
+      let size : length x ≡ F .n = length-oriented flipped b ∙ h .size in
+      let bits = bits-oriented flipped b (h .bits) in
+      let code = checked-code format flipped b h in
+      let back = ring-back format x t bits size below code in
+      let told : isFlipped F x ≡ flipped = flip-told F (sizesOf format) flipped b (h .size) (h .control-is) in
+      record {
+        size = length-around (windowBits F) t x;
+        bits = is-true (allBits w) (allBits-around (windowBits F) t x bits);
+        ends = ring-agrees format x t bits size below code;
+        divided = ring-divisible format x t bits size below code;
+        turn = ring-turn format x t bits size below code;
+        flip = rw (back, told) refl;
+        telegram = rw (back, told) (oriented-twice flipped b (h .bits));
+      }
+
+  pub cut-found : (w : List ℕ) → w ≡ cut (windowBits (numbersOf format)) t flipped b → Found w
+  cut-found w e =
+      let some : 0 < length b = omega (arith, h .size, sizesOf format .n-is) in
+      rw (e ∙ cut-oriented (windowBits (numbersOf format)) t flipped b some) ring-found
+
+-- ---- the window cut from a telegram that is as asked
 
 -- the window w is accepted as the format's, and tells B, esb, turn and way up, and the user bits u
 pub record Tells (asked : Asked) (format : Format) (w : List ℕ) (B esb t : ℕ) (flipped : Bool) (u : List ℕ) : Type 0 where
@@ -117,49 +160,32 @@ pub record Tells (asked : Asked) (format : Format) (w : List ℕ) (B esb t : ℕ
   pub reading : readingIn format w ≡ record { format = format; scrambling = B; shaping = esb; turn = t; flipped = flipped }
   pub userBits : userBitsIn format w ≡ u
 
-module _ (asked : Asked) (format : Format) (b : List ℕ) (t : ℕ) (flipped : Bool) (is : T (isAsked asked format b)) (below : t < numbersOf format .n) where
-  ring-tells : let F = numbersOf format in
-      Tells asked format (around (windowBits F) t (oriented flipped b)) (scramblingOf F b) (shapingOf F b) t flipped (userBitsOf F b)
-  unfolding readingIn readingOf userBitsIn turnIn telegramIn
-  ring-tells =
+module _ (asked : Asked) (format : Format) (w : List ℕ) where
+  pub cut-tells : (B esb t : ℕ) (flipped : Bool) (u : List ℕ) → CutFrom asked format w B esb t flipped u → Tells asked format w B esb t flipped u
+  unfolding readingIn readingOf userBitsIn turnIn
+  cut-tells B esb t flipped u c =
       let F = numbersOf format in
-      let (formed, passes) = asked-tested asked format b .0 is in
+      let b = c .telegram in
+      let (formed, passes) = asked-tested asked format b .0 (c .as-asked) in
       let h = parts F b formed in
-      let x = oriented flipped b in
-      let w = around (windowBits F) t x in
-      let size : length x ≡ F .n = length-oriented flipped b ∙ h .size in
-      let bits = bits-oriented flipped b (h .bits) in
-      let code = formed-code format flipped b formed in
-      let turn = ring-turn format x t bits size below code in
-      let back = ring-back format x t bits size below code in
-      let told : isFlipped F x ≡ flipped = flip-told F (sizesOf format) flipped b (h .size) (h .control-is) in
-      let upright : oriented flipped x ≡ b = oriented-twice flipped b (h .bits) in
-      let telegram : telegramIn F (turnIn F w) w ≡ b = rw (turn, back, told) upright in
+      let found = cut-found format b t flipped (but-words F b h) (c .turn) w (c .window) in
+      let telegram : telegramIn F (turnIn F w) w ≡ b = rw (found .turn) (found .telegram) in
       record {
         accepted =
             reads-passed asked format w .1
             (record {
-              size = length-around (windowBits F) t x;
-              bits = is-true (allBits w) (allBits-around (windowBits F) t x bits);
-              ends = ring-agrees format x t bits size below code;
-              divided = ring-divisible format x t bits size below code;
-              turn = ap isTurn turn;
+              size = found .size;
+              bits = found .bits;
+              ends = found .ends;
+              divided = found .divided;
+              turn = ap isTurn (found .turn);
               controlled = ap (λ (l : List ℕ). same (controlOf F l) control) telegram ∙ equal-same (controlOf F b) control (h .control-is);
               worded = ap (allWords (F .words)) telegram ∙ is-true (allWords (F .words) b) (h .all-words);
               as-asked = ap (λ (l : List ℕ). verdict (askedTable asked format l)) telegram ∙ passes;
             });
-        reading = rw (turn, back, told, upright);
-        userBits = ap (userBitsOf F) telegram;
+        reading = rw (found .turn, found .flip, found .telegram, ← c .scrambling, ← c .shaping) refl;
+        userBits = ap (userBitsOf F) telegram ∙ c .userBits;
       }
-
-module _ (asked : Asked) (format : Format) (w : List ℕ) where
-  pub cut-tells : (B esb t : ℕ) (flipped : Bool) (u : List ℕ) → CutFrom asked format w B esb t flipped u → Tells asked format w B esb t flipped u
-  cut-tells B esb t flipped u c =
-      let F = numbersOf format in
-      let b = c .telegram in
-      let some : 0 < length b = omega (arith, parts F b (asked-tested asked format b .0 (c .as-asked) .0) .size, sizesOf format .n-is) in
-      rw (c .window ∙ cut-oriented (windowBits F) t flipped b some, ← c .scrambling, ← c .shaping, ← c .userBits)
-      (ring-tells asked format b t flipped (c .as-asked) (c .turn))
 
   -- so one window is cut from telegrams with one pair and one block only, at one turn and one way up
   pub cut-once : (B C d e s t : ℕ) (f g : Bool) (u v : List ℕ) → CutFrom asked format w B d s f u → CutFrom asked format w C e t g v

@@ -31,7 +31,7 @@ use Rattle.reader.proofs.ReadsCut.{reads-cut}
 -- ---- refused by the table
 
 -- what an answer says
-abbrev said : ReadAnswer → Verdict Refusal
+abbrev pub said : ReadAnswer → Verdict Refusal
 said (Refused r) = refused r
 said (Read reading) = accepted
 
@@ -40,7 +40,7 @@ refusal-said (Refused q) r e = cc
 refusal-said (Read reading) r e = clash cc
 
 -- is the table's verdict
-verdict-said : (asked : Asked) (w out : List ℕ) → said (readBy asked w out .answer) ≡ verdict (readTable asked (formatOf w) (length out) w)
+pub verdict-said : (asked : Asked) (w out : List ℕ) → said (readBy asked w out .answer) ≡ verdict (readTable asked (formatOf w) (length out) w)
 verdict-said asked w out =
     let v = verdict (readTable asked (formatOf w) (length out) w) in
     ap (λ (x : Outcome ReadAnswer). said (x .answer)) (any-window asked w out ∙ decided asked (formatOf w) w out v refl)

@@ -18,9 +18,10 @@ use Rattle.cyclic.specs.Check.{gPadded, divisible}
 use Rattle.cyclic.proofs.Laws.{zeros, reads-turned}
 use Rattle.cyclic.proofs.Formats.{factsOf}
 use Rattle.telegrams.specs.Telegram.{control}
-use Rattle.telegrams.specs.Fields.{controlOf, allWords, wellFormed}
+use Rattle.telegrams.specs.Fields.{controlOf, allWords}
 use Rattle.telegrams.proofs.Checked.{checked-remainder}
-use Rattle.telegrams.proofs.WellFormed.{from-parts}
+use Rattle.telegrams.specs.Worded.{ControlAndCheck}
+use Rattle.telegrams.proofs.WellFormed.{with-words, from-parts}
 use Rattle.reader.specs.declared.Asked.{Asked}
 use Rattle.reader.specs.Windows.{oriented, cut}
 use Rattle.reader.specs.Reads.{turnIn, isFlipped, turnedBack, telegramIn, readingOf, readingIn, userBitsIn, readsAs}
@@ -28,13 +29,13 @@ use Rattle.reader.specs.CutFrom.{CutFrom}
 use Rattle.reader.proofs.AsAsked.{asked-tested}
 use Rattle.reader.proofs.Ends.{ends-repeat}
 use Rattle.reader.proofs.Windows.{oriented-twice, cut-oriented, window-of}
-use Rattle.reader.proofs.Accepted.{Passed, reads-passed}
+use Rattle.reader.proofs.Accepted.{Placed, placed, reads-passed}
 use Rattle.reader.proofs.Turns.{turn-leaves}
 use Rattle.reader.proofs.CutReads.{oriented-fg}
 use Rattle.reader.proofs.Parts.Found.{length-back, bits-back, length-found, bits-found}
 
--- a window that passed every test
-module _ (asked : Asked) (format : Format) (w : List ℕ) (p : Passed asked format w) where
+-- a window that passed the tests up to the control bits
+module _ (format : Format) (w : List ℕ) (p : Placed format w) where
   -- has the first n bits
   front : numbersOf format .n ≤ length w
   front = omega (arith, p .size)
@@ -43,7 +44,7 @@ module _ (asked : Asked) (format : Format) (w : List ℕ) (p : Passed asked form
   bits = holds (allBits w) (p .bits)
 
   -- the turn found is below n
-  below : turnIn (numbersOf format) w < numbersOf format .n
+  pub below : turnIn (numbersOf format) w < numbersOf format .n
   below = turn-leaves (numbersOf format) w (p .turn) .0
 
   -- turned back, the first n bits have the remainder g by f*g
@@ -55,10 +56,10 @@ module _ (asked : Asked) (format : Format) (w : List ℕ) (p : Passed asked form
       reads-turned F (factsOf format) (turnIn F w) v (allBits-take (F .n) w bits) below (length-take-le (F .n) w front)
       (same-true (remainder (gOf F) v) (zeros 75) (p .divided)) (sym (turn-leaves F w (p .turn) .1))
 
-  -- so what was found is well-formed
-  found-formed : T (wellFormed (numbersOf format) (telegramIn (numbersOf format) (turnIn (numbersOf format) w) w))
+  -- so what was found has the control and the check bits
+  pub found-checked : ControlAndCheck (numbersOf format) (telegramIn (numbersOf format) (turnIn (numbersOf format) w) w)
   unfolding telegramIn
-  found-formed =
+  found-checked =
       let F = numbersOf format in
       let A = factsOf format in
       let t = turnIn F w in
@@ -66,19 +67,17 @@ module _ (asked : Asked) (format : Format) (w : List ℕ) (p : Passed asked form
       let b = telegramIn F t w in
       let all = length-found F t w front in
       let are-bits = bits-found F t w bits in
-      from-parts F b
-      (record {
+      record {
         size = all;
         bits = are-bits;
         control-is = same-true (controlOf F b) control (p .controlled);
-        all-words = holds (allWords (F .words) b) (p .worded);
         check =
             checked-remainder F A (sizesOf format) b are-bits all .1
             (oriented-fg F A (isFlipped F x) x (bits-back F t w bits) (length-back F t w front) ∙ back-code);
-      })
+      }
 
   -- and the window is cut from it
-  found-window : let F = numbersOf format in
+  pub found-window : let F = numbersOf format in
       let t = turnIn F w in
       w ≡ cut (windowBits F) t (isFlipped F (turnedBack F t w)) (telegramIn F t w)
   unfolding telegramIn turnedBack
@@ -98,13 +97,16 @@ pub reads-cut : (asked : Asked) (format : Format) (w : List ℕ) → T (readsAs 
 unfolding readingIn readingOf userBitsIn
 reads-cut asked format w h =
     let F = numbersOf format in
+    let b = telegramIn F (turnIn F w) w in
     let p = reads-passed asked format w .0 h in
+    let q = placed asked format w p in
+    let formed = from-parts F b (with-words F b (found-checked format w q) (holds (allWords (F .words) b) (p .worded))) in
     record {
-      telegram = telegramIn F (turnIn F w) w;
-      as-asked = asked-tested asked format (telegramIn F (turnIn F w) w) .1 (found-formed asked format w p, p .as-asked);
+      telegram = b;
+      as-asked = asked-tested asked format b .1 (formed, p .as-asked);
       scrambling = refl;
       shaping = refl;
       userBits = refl;
-      turn = below asked format w p;
-      window = found-window asked format w p;
+      turn = below format w q;
+      window = found-window format w q;
     }

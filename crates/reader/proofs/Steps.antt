@@ -21,6 +21,7 @@ use Rattle.cyclic.specs.declared.Turn.the-variants.{At, Nothing}
 use Rattle.cyclic.specs.Check.{divisible}
 use Rattle.telegrams.specs.Telegram.{control}
 use Rattle.telegrams.specs.Fields.{controlOf, allWords, userBitsOf}
+use Rattle.telegrams.specs.Worded.{badWord}
 use Rattle.conditions.specs.declared.Failing.the-variants.{First, None}
 use Rattle.conditions.proofs.FirstFailing.{first-refused, none-accepted, conditions-rise}
 use Rattle.reader.specs.declared.Asked.{Asked}
@@ -114,7 +115,7 @@ module _ (asked : Asked) (format : Format) (t : ℕ) (flipped : Bool) (b out : L
 
   -- 9: a word that is not in the table
   pub word-refused : same (controlOf (numbersOf format) b) control ≡ true → allWords (numbersOf format .words) b ≡ false
-      → readTelegram asked format t flipped b out ≡ outcome (Refused NotWord) out
+      → readTelegram asked format t flipped b out ≡ outcome (Refused (NotWord (badWord (numbersOf format .words) b))) out
   unfolding readTelegram telegramTable verdict
   word-refused controlled worded = rw (controlled, worded)
 

@@ -3,3 +3,4 @@ pub mod Reads
 pub mod AtTurn
 pub mod CutFrom
 pub mod ReadsExactly
+pub mod NamesBadWord

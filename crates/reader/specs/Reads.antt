@@ -1,5 +1,5 @@
 -- What reading a window answers, and what the output holds afterwards (document 01, "Search, reading and place", and
--- "When the bench says no"; document 02, No. 2 and No. 11).
+-- "When the bench says no"; document 02, No. 2, No. 11 and No. 13).
 -- Assumes nothing.
 use Prim.Native.Nat.{ℕ, _-_}
 use mathlib.Core.Bool.{Bool, true, false, not}
@@ -11,16 +11,16 @@ use Rattle.formats.specs.declared.format.Format.{Format}
 use Rattle.formats.specs.Numbers.{Numbers, short, numbersOf, windowBits, formatFor, fOf}
 use Rattle.refusals.specs.declared.Refusal.{Refusal}
 use Rattle.refusals.specs.declared.Refusal.the-variants.{Length, NotBit, OutputShort, EndsDiffer, NotDivisible, NoTurn, Control, NotWord}
-use Rattle.refusals.specs.Refused.{refusalNumber}
 use Rattle.refusals.specs.Table.{Row, _when_, verdict, accepts, outcomeBy}
 use Rattle.refusals.specs.Outcome.{Outcome, outcome}
-use Rattle.refusals.specs.AnswerValues.{formatNumber, flippedNumber}
+use Rattle.refusals.specs.AnswerValues.{formatNumber, flippedNumber, refusalValues}
 use Rattle.cyclic.specs.declared.Turn.{Turn}
 use Rattle.cyclic.specs.declared.Turn.the-variants.{At, Nothing}
 use Rattle.cyclic.specs.Remainder.{remainder}
 use Rattle.cyclic.specs.Check.{turned, turnOf, divisible}
 use Rattle.telegrams.specs.Telegram.{control}
 use Rattle.telegrams.specs.Fields.{controlOf, scramblingOf, shapingOf, allWords, userBitsOf}
+use Rattle.telegrams.specs.Worded.{badWord}
 use Rattle.conditions.specs.FirstFailing.{conditionTable}
 use Rattle.reader.specs.declared.Asked.{Asked}
 use Rattle.reader.specs.declared.Asked.the-variants.{WellFormed, Proper}
@@ -34,10 +34,10 @@ abbrev pub readingValues : ℕ → Reading → List ℕ
 readingValues place reading =
     formatNumber (reading .format) ∷ flippedNumber (reading .flipped) ∷ reading .scrambling ∷ reading .turn ∷ place ∷ reading .shaping ∷ []
 
--- the values of each answer: the number, 0 where nothing is refused, and those of the reading, at place 0
+-- the values of each answer: the number, 0 where nothing is refused, and those of the reading, at place 0; or those of the refusal
 abbrev pub readValues : ReadAnswer → List ℕ
 readValues (Read reading) = 0 ∷ readingValues 0 reading
-readValues (Refused refusal) = refusalNumber refusal ∷ []
+readValues (Refused refusal) = refusalValues refusal
 
 -- the format that the window's length picks
 abbrev pub formatOf : List ℕ → Format
@@ -89,7 +89,7 @@ unfoldable pub telegramTable : Asked → Format → List ℕ → List (Row Refus
 telegramTable asked format b =
     let F = numbersOf format in
     Control when not (same (controlOf F b) control)
-    ∷ NotWord when not (allWords (F .words) b)
+    ∷ NotWord (badWord (F .words) b) when not (allWords (F .words) b)
     ∷ askedTable asked format b
 
 -- when each refusal applies to a window that is to be the format's, room being the output's length

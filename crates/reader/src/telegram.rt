@@ -1,4 +1,4 @@
-// Reading the telegram that a window has at a turn (document 01, "Search, reading and place"; document 02, No. 2).
+// Reading the telegram that a window has at a turn (document 01, "Search, reading and place"; document 02, No. 2 and No. 13).
 ghost use mathlib.Core.Path.{_≡_};
 ghost use Prim.Native.Nat.{_≤_};
 ghost use lib.Dec.{T};
@@ -17,8 +17,8 @@ use formats::format::Format;
 use formats::format::Long;
 use refusals::Refusal;
 use telegrams::fields;
+use telegrams::fields::Worded;
 use telegrams::undoing;
-use telegrams::undoing::Unshaped;
 
 // The first condition that fails, of those that are asked for.
 fn first_failing(asked: Asked, format: Format, telegram: &[u8]) -> Failing
@@ -51,8 +51,8 @@ fn read_telegram(
     let mut unshaped = [0u8; 10 * Long::WORDS];
     let words = format::words(format);
     let answer = undoing::unshape(telegram, words, &mut unshaped);
-    if let Unshaped::NotWord = answer {
-        return ReadAnswer::Refused(Refusal::NotWord);
+    if let Worded::NotWord(bad) = answer {
+        return ReadAnswer::Refused(Refusal::NotWord(bad));
     }
     if let Failing::First(refusal) = first_failing(asked, format, telegram) {
         return ReadAnswer::Refused(refusal);

@@ -6,11 +6,11 @@ use mathlib.Core.Bool.{Bool, true, false, not, cond}
 use mathlib.Core.List.{List, [], _∷_, _++_}
 use mathlib.Core.Logic.{_↔_, inl, inr}
 use native.Mathlib.Omega.{arith}
-use lib.Dec.{T, ltb, ltb→lt}
+use lib.Dec.{T, eqb, ltb, ltb→lt, T-not, eqb-refl}
 use Rattle.bits.proofs.And.{and-left, and-right}
-use Rattle.bits.proofs.Tests.{clash}
+use Rattle.bits.proofs.Tests.{clash, is-false}
 use Rattle.refusals.specs.Outcome.{Outcome}
-use Rattle.refusals.specs.Table.{Row, _when_, Verdict, refused, accepted, verdict, accepts, answerBy, outcomeBy, Applies, FirstApplies, Lowest, RefusesBy, RefusesInOrder, risesAbove}
+use Rattle.refusals.specs.Table.{Row, _when_, Verdict, refused, accepted, verdict, accepts, answerBy, outcomeBy, RowApplies, Applies, FirstApplies, Lowest, RefusesBy, RefusesInOrder, risesAbove}
 
 module _ {R : Type 0} where
   -- ---- a verdict is one of the two
@@ -129,6 +129,13 @@ module _ {R : Type 0} where
   first-applies (row ∷ rows) r (inl a) = inl a
   first-applies (row ∷ rows) r (inr (fails, f)) = inr (first-applies rows r f)
 
+  -- the first that applies, for a walk row by row
+  pub record FirstIs (rows : List (Row R)) (r : R) : Type 0 where
+    pub applies : FirstApplies rows r
+
+  pub refused-first : (rows : List (Row R)) (r : R) → verdict rows ≡ refused r → FirstIs rows r
+  refused-first rows r e = record { applies = first-given rows r e }
+
   -- ---- the lowest number, where the numbers rise
 
   module _ (number : R → ℕ) where
@@ -187,6 +194,28 @@ module _ {R : Type 0} where
             let a = first-applies rows q f in
             let same : number q ≡ number r = omega (arith, l .lowest q a, first-lowest 0 rows h q f r (l .applies)) in
             ap refused (one-row 0 rows h q r a (l .applies) same)
+
+    -- ---- the first that applies, row by row
+
+    -- a row whose refusal has another number does not apply, and it is that of a later one
+    pub later-row : {row : Row R} {rows : List (Row R)} {r : R} → T (not (eqb (number (row .refusal)) (number r)))
+        → FirstIs (row ∷ rows) r → (row .applies ≡ false) × FirstIs rows r
+    unfolding FirstApplies
+    later-row {row} {rows} {r} other f = go (f .applies)
+      where
+        go : FirstApplies (row ∷ rows) r → (row .applies ≡ false) × FirstIs rows r
+        go (inl (is, a)) = absurd (T-not (eqb (number (row .refusal)) (number r)) other (rw (ap number is) (eqb-refl (number r))))
+        go (inr (fails, later)) = (is-false (row .applies) fails, record { applies = later })
+
+    -- it is that of this row, where no later one has its number
+    pub this-row : {row : Row R} {rows : List (Row R)} {r : R} → T (risesAbove number (number r) rows)
+        → FirstIs (row ∷ rows) r → RowApplies row r
+    unfolding FirstApplies
+    this-row {row} {rows} {r} rises f = go (f .applies)
+      where
+        go : FirstApplies (row ∷ rows) r → RowApplies row r
+        go (inl here) = here
+        go (inr (fails, later)) = absurd (omega (arith, above (number r) rows rises r (first-applies rows r later)))
 
 -- ---- an answer that goes by a table
 

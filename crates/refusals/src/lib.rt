@@ -1,6 +1,9 @@
-// The refusals and their numbers (document 01, "When the bench says no", in its order; 27 is document 02's, No. 11).
+// The refusals and their numbers (document 01, "When the bench says no", in its order; 27 is document 02's, No. 11), and what a
+// refusal carries.
 ghost use mathlib.Core.Path.{_≡_};
-ghost use Rattle.refusals.specs.Refused.{refusalNumber, triedCount};
+ghost use Rattle.refusals.specs.Refused.{refusalNumber, triedCount, badWordIn};
+use words::BadWord;
+use words::Kind;
 
 pub enum Refusal {
     Length,
@@ -11,7 +14,7 @@ pub enum Refusal {
     NotDivisible,
     NoTurn,
     Control,
-    NotWord,
+    NotWord(BadWord),
     OffStep,
     Repeating,
     Thinned,
@@ -35,7 +38,7 @@ pub fn number(refusal: Refusal) -> u8
         Refusal::NotDivisible => 6,
         Refusal::NoTurn => 7,
         Refusal::Control => 8,
-        Refusal::NotWord => 9,
+        Refusal::NotWord(_) => 9,
         Refusal::OffStep => 10,
         Refusal::Repeating => 11,
         Refusal::Thinned => 12,
@@ -49,4 +52,30 @@ pub fn tried(refusal: Refusal) -> u32
     ensures { λ n. ⌜ n ≡ triedCount refusal ⌝ }
 {
     if number(refusal) == 4 { PAIRS } else { 0 }
+}
+
+// The bad word that refusal 9 carries; for every other one whose numbers are 0.
+pub fn bad_word(refusal: Refusal) -> BadWord
+    ensures { λ bad. ⌜ bad ≡ badWordIn refusal ⌝ }
+{
+    let none = BadWord {
+        kind: Kind::Other,
+        index: 0,
+    };
+    match refusal {
+        Refusal::Length => none,
+        Refusal::NotBit => none,
+        Refusal::OutputShort => none,
+        Refusal::NoPair => none,
+        Refusal::EndsDiffer => none,
+        Refusal::NotDivisible => none,
+        Refusal::NoTurn => none,
+        Refusal::Control => none,
+        Refusal::NotWord(bad) => bad,
+        Refusal::OffStep => none,
+        Refusal::Repeating => none,
+        Refusal::Thinned => none,
+        Refusal::NoPlace => none,
+        Refusal::PairTooLarge => none,
+    }
 }

@@ -6,3 +6,4 @@ pub mod Checked
 pub mod WellFormed
 pub mod Buffers
 pub mod Pair
+pub mod FirstBad

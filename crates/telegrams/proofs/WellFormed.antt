@@ -25,6 +25,7 @@ use Rattle.cyclic.specs.Check.{checkBits}
 use Rattle.cyclic.proofs.Laws.{Facts}
 use Rattle.telegrams.specs.Telegram.{shaped, shapedData, control, settings, unchecked, telegramOf}
 use Rattle.telegrams.specs.Fields.{controlOf, scramblingOf, shapingOf, unshaped, userBitsOf, allWords, checked, wellFormed}
+use Rattle.telegrams.specs.Worded.{ControlAndCheck}
 use Rattle.telegrams.proofs.Shaping.{length-unshaped, bits-unshaped, shaped-unshaped}
 use Rattle.telegrams.proofs.Made.{length-made, bits-made, control-made, words-made, checked-made}
 
@@ -63,6 +64,13 @@ parts F b h =
       all-words = and-right (e && allBits b && c) w words;
       check = and-right (e && allBits b && c && w) (checked F b) h;
     }
+
+-- all but the words
+pub but-words : (F : Numbers) (b : List ℕ) → WellFormed F b → ControlAndCheck F b
+but-words F b p = record { size = p .size; bits = p .bits; control-is = p .control-is; check = p .check }
+
+pub with-words : (F : Numbers) (b : List ℕ) → ControlAndCheck F b → T (allWords (F .words) b) → WellFormed F b
+with-words F b p words = record { size = p .size; bits = p .bits; control-is = p .control-is; all-words = words; check = p .check }
 
 pub from-parts : (F : Numbers) (b : List ℕ) → WellFormed F b → T (wellFormed F b)
 unfolding wellFormed

@@ -1,3 +1,3 @@
 pub mod Telegram
 pub mod Fields
-pub mod Unshaped
+pub mod Worded

@@ -1,14 +1,23 @@
 // The fields of a telegram (document 01, "The telegram, left to right").
 ghost use mathlib.Core.Path.{_≡_};
-ghost use Prim.Native.Nat.{_-_, _*_, _≤_};
+ghost use Prim.Native.Nat.{_+_, _-_, _*_, _≤_};
 ghost use lib.Dec.{T};
 ghost use lib.ListN.{length, take, drop};
 ghost use Rattle.bits.specs.Bits.{allBits, same, numberOf};
 ghost use Rattle.formats.specs.Numbers.{numbersOf};
 ghost use Rattle.telegrams.specs.Telegram.{control};
+ghost use Rattle.telegrams.specs.declared.fields.Worded.the-variants.{NotWord};
 ghost use Rattle.telegrams.specs.Fields.{controlOf, scramblingOf, shapingOf, allWords};
+ghost use Rattle.telegrams.specs.Worded.{badWordAt, worded};
 use formats::format;
 use formats::format::Format;
+use words::BadWord;
+
+// What going through some words tells: each is in the table, or the first that is not.
+pub enum Worded {
+    Whole,
+    NotWord(BadWord),
+}
 
 // b109 to b107.
 const CONTROL: [u8; 3] = [0, 0, 1];
@@ -28,6 +37,34 @@ pub fn all_words(s: &[u8], k: usize) -> bool
         j += 1;
     }
     true
+}
+
+// That the word of s with this index is not in the table.
+pub fn not_word(s: &[u8], index: usize) -> Worded
+    requires { ⌜ T (allBits (now s)) ⌝ }
+    requires { ⌜ 11 * index + 11 ≤ length (now s) ⌝ }
+    ensures { λ r. ⌜ r ≡ NotWord (badWordAt (now (s .entry)) index) ⌝ }
+{
+    let word = bits::number(s, 11 * index, 11);
+    let kind = words::kind_of(word as u16);
+    Worded::NotWord(BadWord { kind, index })
+}
+
+// Whether the first k words of s are all in the table, and else the first that is not.
+pub fn go_through(s: &[u8], k: usize) -> Worded
+    requires { ⌜ T (allBits (now s)) ⌝ }
+    requires { ⌜ 11 * k ≤ length (now s) ⌝ }
+    ensures { λ r. ⌜ r ≡ worded k (now (s .entry)) ⌝ }
+{
+    let mut at = 0;
+    while at < k {
+        let word = bits::number(s, 11 * at, 11);
+        if !words::in_table(word as u16) {
+            return not_word(s, at);
+        }
+        at += 1;
+    }
+    Worded::Whole
 }
 
 // Whether the control bits are 0, 0, 1.

@@ -9,34 +9,30 @@ ghost use Rattle.bits.specs.Bits.{allBits};
 ghost use Rattle.scrambling.specs.Scrambling.{descrambled};
 ghost use Rattle.scrambling.specs.Sum.{withoutSum};
 ghost use Rattle.telegrams.specs.Fields.{allWords, unshaped};
-ghost use Rattle.telegrams.specs.Unshaped.{wholeIf};
+ghost use Rattle.telegrams.specs.Worded.{worded};
+use crate::fields;
+use crate::fields::Worded;
 use words::Lookup;
 
-// What unshaping answers: every word is in the table, or one is not.
-pub enum Unshaped {
-    Whole,
-    NotWord,
-}
-
 // The ten bits of the number of each of the first k words, over the front of out, up to the first word that is not in the table.
-pub fn unshape(telegram: &[u8], k: usize, out: &mut [u8]) -> Unshaped
+pub fn unshape(telegram: &[u8], k: usize, out: &mut [u8]) -> Worded
     requires { ⌜ T (allBits (now telegram)) ⌝ }
     requires { ⌜ 11 * k ≤ length (now telegram) ⌝ }
     requires { ⌜ 10 * k ≤ length (now out) ⌝ }
-    ensures { λ r. ⌜ r ≡ wholeIf (allWords k (now (telegram .entry))) ⌝ }
+    ensures { λ r. ⌜ r ≡ worded k (now (telegram .entry)) ⌝ }
     ensures { λ _. ⌜ (T (allWords k (now (telegram .entry))) → now (out .exit) ≡ unshaped k (now (telegram .entry)) ++ drop (10 * k) (now (out .entry))) ⌝ }
 {
     let mut j = 0;
     while j < k {
         let word = bits::number(telegram, 11 * j, 11);
         let Lookup::Number(i) = words::look_up(word as u16) else {
-            return Unshaped::NotWord;
+            return fields::not_word(telegram, j);
         };
         let at = 10 * j;
         bits::write_number(&mut out[at..], 10, i as u32);
         j += 1;
     }
-    Unshaped::Whole
+    Worded::Whole
 }
 
 // The user bits, from the scrambled ones and the scrambling bits b, over the front of output.

@@ -7,6 +7,7 @@ use crate::writing::write_text;
 use formats::format::Format;
 use libc::STDOUT_FILENO;
 use refusals::Refusal;
+use words::Kind;
 
 // Line one.
 pub fn print_header(kind: &[u8]) {
@@ -32,7 +33,7 @@ pub fn print_none() {
     io::write_all(STDOUT_FILENO, b"none\n");
 }
 
-// Line three of a refusal: its number, and for 4 the count of pairs tried.
+// Line three of a refusal: its number, for 4 the count of pairs tried, and for 9 the kind and the index of the first bad word.
 pub fn print_refused(refusal: Refusal) {
     let number = refusals::number(refusal);
     io::write_all(STDOUT_FILENO, b"refused ");
@@ -40,7 +41,22 @@ pub fn print_refused(refusal: Refusal) {
     if number == 4 {
         print_field(b"tried", refusals::tried(refusal) as u64);
     }
+    if let Refusal::NotWord(bad) = refusal {
+        let kind = bad.kind;
+        print_kind(kind);
+        print_field(b"word", bad.index as u64);
+    }
     end_line();
+}
+
+// The kind of a word that is not in the table, as two further words of a line.
+fn print_kind(kind: Kind) {
+    print_word(b"kind");
+    match kind {
+        Kind::Group250 => print_word(b"250"),
+        Kind::Group20 => print_word(b"20"),
+        Kind::Other => print_word(b"other"),
+    }
 }
 
 // The first word of line three.

@@ -48,7 +48,7 @@ not-barred i h = (
 )
 
 -- what holds of each entry holds of a word that is among them
-at-member : (f : ℕ → Bool) (w : ℕ) (l : List ℕ) → T (every f l) → among w l ≡ true → T (f w)
+pub at-member : (f : ℕ → Bool) (w : ℕ) (l : List ℕ) → T (every f l) → among w l ≡ true → T (f w)
 unfolding every among
 at-member f w [] t e = absurd (false≢true e)
 at-member f w (x ∷ xs) t e = go (at-member f w xs (and-right (f x) (every f xs) t)) (eqb x w) refl e

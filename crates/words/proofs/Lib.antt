@@ -5,4 +5,7 @@ pub mod Numbers
 pub mod InverseTable
 pub mod Groups
 pub mod Ranks
+pub mod KindBits
 pub mod WordBits
+pub mod FourCases
+pub mod Marked

@@ -1,10 +1,11 @@
--- Tests that antt computes over a whole list, each with the lemma that turns it into the rule at an entry.
+-- Tests that antt computes over a whole list, or at every number below another, each with the lemma that turns it into the rule at an entry.
 -- Assumes nothing.
 use mathlib.Core.Path.{_≡_, refl, ap, sym, _∙_, subst}
 use mathlib.Core.Bool.{Bool, true, false, not, _&&_}
 use mathlib.Core.List.{List, [], _∷_, reverseAux, reverse}
 use Prim.Native.Nat.{ℕ, zero, suc, _+_, _-_, _≤_, _<_}
-use native.Mathlib.Nat.{le-of-suc-le-suc, not-suc-le-zero}
+use mathlib.Core.Logic.{⊎-elim}
+use native.Mathlib.Nat.{eq-or-lt-of-le, le-of-suc-le-suc, not-suc-le-zero}
 use native.Mathlib.Omega.{arith}
 use lib.Dec.{T, eqb, leb, ltb, eqb→eq, leb→le, le→leb}
 use lib.ListN.{length, getD}
@@ -39,6 +40,19 @@ each-at f k (x ∷ xs) t zero n e h =
     subst (λ (m : ℕ). T (f m x)) same (and-left (f k x) (eachFrom f (suc k) xs) t)
 each-at f k (x ∷ xs) t (suc i) n e h =
     each-at f (suc k) xs (and-right (f k x) (eachFrom f (suc k) xs) t) i n (omega arith) (le-of-suc-le-suc h)
+
+-- the test passes at each number below n
+unfoldable pub allBelow : (ℕ → Bool) → ℕ → Bool
+allBelow test zero = true
+allBelow test (suc n) = test n && allBelow test n
+
+pub below-at : (test : ℕ → Bool) (n : ℕ) → T (allBelow test n) → (w : ℕ) → w < n → T (test w)
+unfolding allBelow
+below-at test zero t w h = absurd (not-suc-le-zero h)
+below-at test (suc n) t w h =
+    ⊎-elim (λ (e : w ≡ n). rw e (and-left (test n) (allBelow test n) t))
+    (λ (l : w < n). below-at test n (and-right (test n) (allBelow test n) t) w l)
+    (eq-or-lt-of-le (le-of-suc-le-suc h))
 
 -- the entries are k or more, and each is more than the one before it
 unfoldable pub rises : ℕ → List ℕ → Bool

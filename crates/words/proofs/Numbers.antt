@@ -1,7 +1,7 @@
--- The number of a word, found by going through the table: it is the number whose word this is, and a word that is no entry has none.
+-- The number of a word, found by going through the table: it is the number whose word this is, and a word that is no entry has its kind.
 -- Assumes nothing.
 use mathlib.Core.Path.{_≡_, refl, ap, _∙_}
-use mathlib.Core.Bool.{Bool, true, false, cond}
+use mathlib.Core.Bool.{Bool, true, false, true≢false, cond}
 use mathlib.Core.List.{List, [], _∷_}
 use Prim.Native.Nat.{ℕ, zero, suc, _+_, _≤_, _<_}
 use native.Mathlib.Nat.{le-of-suc-le-suc, not-suc-le-zero}
@@ -9,10 +9,11 @@ use native.Mathlib.Omega.{arith}
 use lib.Dec.{T, eqb}
 use lib.ListN.{length, getD}
 use borrow.Author.Tests.{eq-eqb, ne-eqb, eqb-true}
+use Rattle.words.specs.declared.Kind.{Kind}
 use Rattle.words.specs.declared.Lookup.{Lookup}
 use Rattle.words.specs.declared.Lookup.the-variants.{Number, NotInTable}
 use Rattle.words.specs.Table.{table}
-use Rattle.words.specs.Words.{wordOf, lookupFrom, lookupOf}
+use Rattle.words.specs.Words.{wordOf, kindOf, lookupFrom, lookupOf, isNumber, inTable}
 use Rattle.words.proofs.Lists.{rises, rises-first, rises-rest, rises-least}
 use Rattle.words.proofs.Rules.{table-length, table-rises, within, word-bits}
 
@@ -25,8 +26,8 @@ pub found-later : (i x : ℕ) (xs : List ℕ) (w : ℕ) → (x ≡ w → ⊥) �
 unfolding lookupFrom
 found-later i x xs w d = ap (λ (b : Bool). cond b (Number i) (lookupFrom (suc i) xs w)) (ne-eqb x w d)
 
--- a word below every entry has no number
-pub too-low : (k i : ℕ) (l : List ℕ) (w : ℕ) → T (rises k l) → w < k → lookupFrom i l w ≡ NotInTable
+-- a word below every entry is not found
+pub too-low : (k i : ℕ) (l : List ℕ) (w : ℕ) → T (rises k l) → w < k → lookupFrom i l w ≡ NotInTable (kindOf w)
 unfolding lookupFrom
 too-low k i [] w t h = refl
 too-low k i (x ∷ xs) w t h =
@@ -76,12 +77,35 @@ lookup-number w i e =
     let same : i ≡ r .place = omega arith in
     (omega (arith, table-length), ap (λ (n : ℕ). getD table n 0) same ∙ r .entry)
 
+-- a word that is no entry has its kind
+kind-from : (i : ℕ) (l : List ℕ) (w : ℕ) (kind : Kind) → lookupFrom i l w ≡ NotInTable kind → kind ≡ kindOf w
+unfolding lookupFrom
+kind-from i [] w kind e = cc
+kind-from i (x ∷ xs) w kind e = go (kind-from (suc i) xs w kind) (eqb x w) e
+  where
+    go : (lookupFrom (suc i) xs w ≡ NotInTable kind → kind ≡ kindOf w)
+        → (b : Bool) → cond b (Number i) (lookupFrom (suc i) xs w) ≡ NotInTable kind → kind ≡ kindOf w
+    go ih true q = let z : _≡_ {A = ℕ} 0 1 = cc in absurd (omega arith)
+    go ih false q = ih q
+
+pub lookup-kind : (w : ℕ) (kind : Kind) → lookupOf w ≡ NotInTable kind → kind ≡ kindOf w
+unfolding lookupOf
+lookup-kind w kind e = kind-from 0 table w kind e
+
+-- a word that the table does not have is found with its kind
+pub lookup-absent : (w : ℕ) → inTable w ≡ false → lookupOf w ≡ NotInTable (kindOf w)
+lookup-absent w h = go (lookupOf w) refl h
+  where
+    go : (r : Lookup) → lookupOf w ≡ r → isNumber r ≡ false → lookupOf w ≡ NotInTable (kindOf w)
+    go (Number i) e f = absurd (true≢false f)
+    go (NotInTable kind) e f = e ∙ ap (λ (k : Kind). NotInTable k) (lookup-kind w kind e)
+
 -- a number of twelve bits or more is no word
-pub lookup-wide : (w : ℕ) → 2048 ≤ w → lookupOf w ≡ NotInTable
+pub lookup-wide : (w : ℕ) → 2048 ≤ w → lookupOf w ≡ NotInTable (kindOf w)
 lookup-wide w h = go (lookupOf w) refl
   where
-    go : (r : Lookup) → lookupOf w ≡ r → lookupOf w ≡ NotInTable
+    go : (r : Lookup) → lookupOf w ≡ r → lookupOf w ≡ NotInTable (kindOf w)
     go (Number i) e =
         let p = lookup-number w i e in
         absurd (omega (arith, word-bits i (p .0)))
-    go NotInTable e = e
+    go (NotInTable kind) e = e ∙ ap (λ (k : Kind). NotInTable k) (lookup-kind w kind e)

@@ -14,14 +14,14 @@ use borrow.Author.Tests.{ltb-true, ltb-false}
 use Rattle.words.specs.Table.{table}
 use Rattle.words.specs.PartsOf64.{present, before}
 use Rattle.words.specs.declared.Lookup.the-variants.{Number, NotInTable}
-use Rattle.words.specs.Words.{lookupOf, isNumber, inTable}
+use Rattle.words.specs.Words.{kindOf, lookupOf, isNumber, inTable}
 use Rattle.bits.proofs.And.{and-left, and-right}
 use Rattle.words.proofs.Lists.{eachFrom, each-at}
 use Rattle.words.proofs.Numbers.{lookup-wide}
 use Rattle.words.proofs.InverseTable.{inverse, inverseFrom, inverse-length, inverse-number, inverse-none}
 
 -- as the code has them, where x has the bits of the word's part, and y words of the table are below the part: the word's bit, the
--- divisor that leaves the bits below it, those bits, the rank, and the rank with 1024 more where the table does not have the word
+-- divisor that leaves the bits below it, those bits, and the rank
 abbrev pub bitAt : ℕ → ℕ → ℕ
 bitAt x w = x / 2 ^ (w % 64) % 2
 
@@ -33,9 +33,6 @@ lower x w = x % divisor w
 
 abbrev pub rank : ℕ → ℕ → ℕ → ℕ
 rank x y w = y + ones (lower x w)
-
-abbrev pub marked : ℕ → ℕ → ℕ → ℕ
-marked x y w = rank x y w + 1024 * (1 - bitAt x w)
 
 pub divides : (w : ℕ) → 0 < divisor w
 divides w = omega (arith, suc-ones (w % 64), shl-exact {a = 1} 1 (w % 64) 64 (omega arith) (omega arith))
@@ -87,10 +84,10 @@ tells-number (suc b) n k d t =
     (ltb→lt n 1024 (and-left (ltb n 1024) (eqb n k) t), eqb→eq n k (and-right (ltb n 1024) (eqb n k) t))
 
 -- what the bit and the rank tell of a number w
-record Told (x y w : ℕ) : Type 0 where
-  absent : bitAt x w ≡ 0 → NotInTable ≡ lookupOf w
-  ranked : (bitAt x w ≡ 0 → ⊥) → (rank x y w < 1024) × (Number (rank x y w) ≡ lookupOf w)
-  most : y ≤ 1024
+pub record Told (x y w : ℕ) : Type 0 where
+  pub absent : bitAt x w ≡ 0 → NotInTable (kindOf w) ≡ lookupOf w
+  pub ranked : (bitAt x w ≡ 0 → ⊥) → (rank x y w < 1024) × (Number (rank x y w) ≡ lookupOf w)
+  pub most : y ≤ 1024
 
 -- of a word
 module _ (w x : ℕ) (h : w < 2048) (p : x ≡ getD present (w / 64) 0) where
@@ -105,7 +102,7 @@ module _ (w x : ℕ) (h : w < 2048) (p : x ≡ getD present (w / 64) 0) where
       told : T (tells (bitAt x w) (getD inverse w 0) (rankIn x y w))
       told = and-right (leb y 1024) _ agreed
 
-      absent : bitAt x w ≡ 0 → NotInTable ≡ lookupOf w
+      absent : bitAt x w ≡ 0 → NotInTable (kindOf w) ≡ lookupOf w
       absent e = inverse-none w h (omega (arith, tells-none (bitAt x w) (getD inverse w 0) (rankIn x y w) e told))
 
       ranked : (bitAt x w ≡ 0 → ⊥) → (rank x y w < 1024) × (Number (rank x y w) ≡ lookupOf w)
@@ -156,7 +153,7 @@ module _ (w x : ℕ) (p : x ≡ getD present (w / 64) 0) where
       go false l = wide-tells w x (ltb-false w 2048 l) p
 
   module _ (y : ℕ) (q : y ≡ getD before (w / 64) 1024) where
-    any-told : Told x y w
+    pub any-told : Told x y w
     any-told = go (ltb w 2048) refl
       where
         go : (b : Bool) → ltb w 2048 ≡ b → Told x y w
@@ -165,19 +162,3 @@ module _ (w x : ℕ) (p : x ≡ getD present (w / 64) 0) where
 
     pub rank-small : rank x y w < 2048
     rank-small = omega (arith, any-told .most, few x w)
-
-    pub marked-none : 1024 ≤ marked x y w → NotInTable ≡ lookupOf w
-    marked-none l = go (bitAt x w) refl
-      where
-        go : (b : ℕ) → bitAt x w ≡ b → NotInTable ≡ lookupOf w
-        go zero e = any-told .absent e
-        go (suc b) e = absurd (omega (arith, any-told .ranked (λ z. omega arith) .0))
-
-    pub marked-number : marked x y w < 1024 → Number (marked x y w) ≡ lookupOf w
-    marked-number l = go (bitAt x w) refl
-      where
-        go : (b : ℕ) → bitAt x w ≡ b → Number (marked x y w) ≡ lookupOf w
-        go zero e = absurd (omega arith)
-        go (suc b) e =
-            let same : marked x y w ≡ rank x y w = omega arith in
-            ap (λ (n : ℕ). Number n) same ∙ any-told .ranked (λ z. omega arith) .1

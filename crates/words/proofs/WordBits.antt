@@ -27,4 +27,4 @@ word-number w h = go (lookupOf (numberOf w)) refl h
   where
     go : (r : Lookup) → lookupOf (numberOf w) ≡ r → T (isNumber r) → (numberIn r < 1024) × (wordOf (numberIn r) ≡ numberOf w)
     go (Number i) e t = lookup-number (numberOf w) i e
-    go NotInTable e t = absurd t
+    go (NotInTable kind) e t = absurd t

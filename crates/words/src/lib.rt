@@ -2,17 +2,33 @@
 ghost use mathlib.Core.Path.{_≡_};
 ghost use Prim.Native.Nat.{_<_};
 ghost use Rattle.words.specs.Table.{table};
-ghost use Rattle.words.specs.Words.{wordOf, lookupOf, inTable, inGroup250, inGroup20};
+ghost use Rattle.words.specs.BarredOf64.{kindMarked};
+ghost use Rattle.words.specs.Words.{wordOf, lookupOf, inTable, inGroup250, inGroup20, kindOf, kindNumber};
 
+mod barred;
 mod parts;
 mod table;
 
 use table::TABLE;
 
-// What looking a word up finds: its number, or that the table does not have it.
+// What a word is that the table does not have (document 02, No. 13): in the group of 250 barred words, in the group of 20, or simply
+// not in the table.
+pub enum Kind {
+    Group250,
+    Group20,
+    Other,
+}
+
+// What looking a word up finds: its number, or the kind of a word that the table does not have.
 pub enum Lookup {
     Number(u16),
-    NotInTable,
+    NotInTable(Kind),
+}
+
+// A word of a telegram that the table does not have: its kind, and its index among the words, from 0 at the left.
+pub struct BadWord {
+    pub kind: Kind,
+    pub index: usize,
 }
 
 // The group of 20 barred words: ten, and then their flips.
@@ -63,21 +79,37 @@ pub fn word(i: u16) -> u16
     word_in(&entries, i)
 }
 
-// The number of a word: how many words of the table are below it, since the table rises. With 1024 more for a word that the table
-// does not have, the sum alone decides, and no branch waits for the word's bit.
+// The kind that a marked rank tells: 2048 more are for a word in neither group, 4096 for one in the group of 20, 6144 for one in that of 250.
+fn kind_marked(rank: u16) -> Kind
+    ensures { λ r. ⌜ r ≡ kindMarked rank ⌝ }
+{
+    if rank < 4096 {
+        return Kind::Other;
+    }
+    if rank < 6144 {
+        return Kind::Group20;
+    }
+    Kind::Group250
+}
+
+// The number of a word: how many words of the table are below it, since the table rises; or its kind. With the mark of a word that the
+// table does not have, the sum alone decides, and no branch waits for the word's bits.
 pub fn look_up(word: u16) -> Lookup
     ensures { λ r. ⌜ r ≡ lookupOf word ⌝ }
 {
     let part = parts::part_at(word / 64);
+    let barred = barred::barred_at(word / 64);
     let words = part.words;
     let place = word % 64;
     let absent = 1 - (words >> place) % 2;
+    let mark = absent + (barred.group_20 >> place) % 2 + 2 * ((barred.group_250 >> place) % 2);
     let below = u64::count_ones(words % (1u64 << place)) as u16;
-    let number = part.before + below + 1024 * (absent as u16);
-    if 1024 <= number {
-        return Lookup::NotInTable;
+    let rank = part.before + below + 2048 * (mark as u16);
+    let kind = kind_marked(rank);
+    if rank < 2048 {
+        return Lookup::Number(rank);
     }
-    Lookup::Number(number)
+    Lookup::NotInTable(kind)
 }
 
 // Whether a word is in the table.
@@ -126,4 +158,30 @@ pub fn in_group_20(word: u16) -> bool
         }
     }
     false
+}
+
+// The kind of a word that the table does not have.
+pub fn kind_of(word: u16) -> Kind
+    ensures { λ r. ⌜ r ≡ kindOf word ⌝ }
+{
+    let barred = barred::barred_at(word / 64);
+    let place = word % 64;
+    if (barred.group_250 >> place) % 2 == 1 {
+        return Kind::Group250;
+    }
+    if (barred.group_20 >> place) % 2 == 1 {
+        return Kind::Group20;
+    }
+    Kind::Other
+}
+
+// The kind's number: how many words its group has, and 0 where it is no group.
+pub fn kind_number(kind: Kind) -> u16
+    ensures { λ r. ⌜ r ≡ kindNumber kind ⌝ }
+{
+    match kind {
+        Kind::Group250 => 250,
+        Kind::Group20 => 20,
+        Kind::Other => 0,
+    }
 }

@@ -10,12 +10,16 @@ use Rattle.bits.specs.Bits.{allBits, same}
 use Rattle.bits.proofs.Tests.{is-true, holds}
 use Rattle.formats.specs.Numbers.{numbersOf}
 use Rattle.formats.proofs.Sizes.{words-fill}
+use Rattle.words.specs.declared.BadWord.{BadWord}
 use Rattle.refusals.specs.declared.Refusal.{Refusal}
+use Rattle.refusals.specs.declared.Refusal.the-variants.{NotWord}
 use Rattle.refusals.specs.Table.{Verdict, answerBy}
 use Rattle.refusals.proofs.Table.{Decides, passed, failed}
 use Rattle.cyclic.specs.Check.{divisible, unturned}
 use Rattle.telegrams.specs.Telegram.{control}
-use Rattle.telegrams.specs.Fields.{controlOf, allWords}
+use Rattle.telegrams.specs.Fields.{controlOf}
+use Rattle.telegrams.specs.Worded.{worded}
+use Rattle.telegrams.proofs.FirstBad.{whole-all, not-word-some}
 use Rattle.checker.specs.declared.Checked.the-variants.{Proper, Refused}
 use Rattle.checker.specs.Checking.{checkTable, checkAs}
 use Rattle.checker.proofs.Steps.{decided}
@@ -69,31 +73,41 @@ controlled c = sym (c .before .has-control .ensures) ∙ not-false _ (c .if3 .le
 words-requires : tie.Need-words-requires
 words-requires c κs = search needs
 
-all-words-requires : tie.Need-all-words-requires
-all-words-requires c κs =
+go-through-requires : tie.Need-go-through-requires
+go-through-requires c κs =
     let start = c .before .before .before .before .before .before .before .before in
     (start .pre .0, omega (arith, words-fill (start .args .format), start .pre .1, c .words .ensures))
 
--- the test of the words, at the format's count
-words-tested : (c : tie.After-all-words)
+-- what the words tell, at the format's count
+told : (c : tie.After-go-through)
     → let a = c .before .before .before .before .before .before .before .before .before .args in
-    c .all-words .result ≡ allWords (numbersOf (a .format) .words) (a .telegram .now)
-words-tested c =
+    c .go-through .result ≡ worded (numbersOf (a .format) .words) (a .telegram .now)
+told c =
     let a = c .before .before .before .before .before .before .before .before .before .args in
-    c .all-words .ensures ∙ ap (λ (k : ℕ). allWords k (a .telegram .now)) (c .before .words .ensures)
+    c .go-through .ensures ∙ ap (λ (k : ℕ). worded k (a .telegram .now)) (c .before .words .ensures)
+
+enum-known-bad : tie.Need-enum-known-bad
+enum-known-bad c = search needs
 
 returns-4 : tie.Need-returns-4
 unfolding checkTable
 returns-4 c =
-    let at3 = c .before .before .before in
+    let found = c .before in
+    let call = found .before .before in
+    let at3 = call .before .before in
     let at2 = at3 .before .before in
     let at1 = at2 .before .before in
-    answered (at1 .before .before .before) _
-    (passed (divides at1) (passed (turned-0 at2) (passed (controlled at3) (failed (sym (words-tested (c .before)) ∙ not-true _ (c .if4 .taken))))))
+    let (some, is) = not-word-some _ _ (found .bad .given .0 .0) (sym (told call) ∙ found .bad .given .1) in
+    ap (λ (bad : BadWord). Refused (NotWord bad)) (sym is)
+    ∙ answered (at1 .before .before .before) _ (passed (divides at1) (passed (turned-0 at2) (passed (controlled at3) (failed some))))
+
+enum-told : tie.Need-enum-told
+enum-told c = search needs
 
 check-conditions-requires : tie.Need-check-conditions-requires
 check-conditions-requires c κs =
-    let at3 = c .before .before .before in
+    let call = c .before .before in
+    let at3 = call .before .before in
     let at2 = at3 .before .before in
     let at1 = at2 .before .before in
     let start = at1 .before .before .before in
@@ -104,8 +118,8 @@ check-conditions-requires c κs =
       divides = holds _ (divides at1);
       turn = holds _ (turned-0 at2);
       has-control = holds _ (controlled at3);
-      all-words = holds _ (sym (words-tested (c .before)) ∙ not-false _ (c .if4 .left));
     }
+    (holds _ (whole-all _ _ (sym (told call) ∙ c .enum-told .given .1)))
 
 returns-5 : tie.Need-returns-5
 returns-5 c = search needs
@@ -121,7 +135,9 @@ check-form-spec =
     has-control-requires
     returns-3
     words-requires
-    all-words-requires
+    go-through-requires
+    enum-known-bad
     returns-4
+    enum-told
     check-conditions-requires
     returns-5)

@@ -1,22 +1,24 @@
--- `maker::write_telegram` meets its contract, by those of `make`, `all_words` and `copy`. Assumes nothing.
+-- `maker::write_telegram` meets its contract, by those of `make`, `go_through` and `copy`. Assumes nothing.
 use mathlib.Core.Path.{_≡_, sym, ap, ap₂, _∙_}
 use mathlib.Core.List.{List, _++_}
 use Prim.Native.Nat.{ℕ, _≤_}
 use native.Mathlib.Omega.{arith}
 use borrow.Author.Needs.{needs}
-use borrow.Author.Tests.{not-true, not-false}
 use lib.ListN.{length, take, drop}
 use lib.Seq.{length-take-le}
 use Rattle.bits.proofs.Parts.{front-is}
 use Rattle.formats.specs.Numbers.{numbersOf}
 use Rattle.formats.proofs.Sizes.{sizesOf, words-fill, telegram-between}
+use Rattle.words.specs.declared.BadWord.{BadWord}
+use Rattle.refusals.specs.declared.Refusal.the-variants.{NotWord}
 use Rattle.refusals.specs.Outcome.{outcome}
 use Rattle.cyclic.proofs.Formats.{factsOf}
 use Rattle.telegrams.specs.Telegram.{telegramOf}
-use Rattle.telegrams.specs.Fields.{allWords}
+use Rattle.telegrams.specs.Worded.{worded}
+use Rattle.telegrams.proofs.FirstBad.{whole-all, not-word-some}
 use Rattle.telegrams.proofs.Made.{length-made, bits-made}
 use Rattle.telegrams.proofs.Buffers.Fronts.{copied-whole}
-use Rattle.maker.specs.declared.Made.the-variants.{Telegram}
+use Rattle.maker.specs.declared.Made.the-variants.{Telegram, Refused}
 use Rattle.maker.proofs.Steps.{word-refused, telegram-made}
 use Rattle.maker.proofs.write_telegram.Statement.{statement}
 use Rattle.maker.proofs.write_telegram.Tie as tie
@@ -62,11 +64,11 @@ within c = omega (arith, c .telegram-bits .ensures, telegram-between (start c .a
 array-share-prefix-telegram : tie.Need-array-share-prefix-telegram
 array-share-prefix-telegram c = within (c .before)
 
-slice-aggregate-all-words : tie.Need-slice-aggregate-all-words
-slice-aggregate-all-words c = sym (length-take-le _ (array (c .before .before)) (within (c .before .before)))
+slice-aggregate-go-through : tie.Need-slice-aggregate-go-through
+slice-aggregate-go-through c = sym (length-take-le _ (array (c .before .before)) (within (c .before .before)))
 
-all-words-requires : tie.Need-all-words-requires
-all-words-requires c κs =
+go-through-requires : tie.Need-go-through-requires
+go-through-requires c κs =
     let bits = c .before .before in
     let a = start bits .args in
     rw (stands bits) (
@@ -74,30 +76,40 @@ all-words-requires c κs =
       omega (arith, size bits, words-fill (a .format), c .before .words .ensures),
     )
 
--- what was tested are the words of the telegram
-tested : (c : tie.After-all-words) → let bits = c .before .before .before in
-    c .all-words .result ≡ allWords (numbersOf (start bits .args .format) .words) (telegram bits)
-tested c =
+-- what is told is of the words of the telegram
+told : (c : tie.After-go-through) → let bits = c .before .before .before in
+    c .go-through .result ≡ worded (numbersOf (start bits .args .format) .words) (telegram bits)
+told c =
     let bits = c .before .before .before in
-    c .all-words .ensures ∙ ap₂ allWords (c .before .before .words .ensures) (stands bits)
+    c .go-through .ensures ∙ ap₂ worded (c .before .before .words .ensures) (stands bits)
+
+enum-known-bad : tie.Need-enum-known-bad
+enum-known-bad c = search needs
 
 returns : tie.Need-returns
 returns c =
-    let s = start (c .before .before .before .before) in
+    let found = c .before in
+    let call = found .before .before in
+    let s = start (call .before .before .before) in
     let a = s .args in
-    word-refused (a .format) (a .block .now) (a .b) (a .esb) (a .output .now) (s .pre) (sym (tested (c .before)) ∙ not-true _ (c .if1 .taken))
+    let (some, is) = not-word-some _ _ (found .bad .given .0 .0) (sym (told call) ∙ found .bad .given .1) in
+    word-refused (a .format) (a .block .now) (a .b) (a .esb) (a .output .now) (s .pre) some
+    ∙ ap (λ (bad : BadWord). outcome (Refused (NotWord bad)) (a .output .now)) is
+
+enum-told : tie.Need-enum-told
+enum-told c = search needs
 
 array-share-prefix-telegram-2 : tie.Need-array-share-prefix-telegram-2
-array-share-prefix-telegram-2 c = within (c .before .before .before .before)
+array-share-prefix-telegram-2 c = within (c .before .before .before .before .before)
 
 slice-aggregate-copy : tie.Need-slice-aggregate-copy
 slice-aggregate-copy c =
-    let bits = c .before .before .before .before .before in
+    let bits = c .before .before .before .before .before .before in
     sym (length-take-le _ (array bits) (within bits))
 
 copy-requires : tie.Need-copy-requires
 copy-requires c κs =
-    let bits = c .before .before .before .before .before .before in
+    let bits = c .before .before .before .before .before .before .before in
     rw (stands bits) (omega (arith, size bits, start bits .pre .room))
 
 same-length : tie.Need-same-length
@@ -107,7 +119,8 @@ returns-2 : tie.Need-returns-2
 returns-2 c =
     let copy = c .before .before in
     let left = copy .before .before .before in
-    let bits = left .before .before .before .before in
+    let call = left .before .before in
+    let bits = call .before .before .before in
     let s = start bits in
     let a = s .args in
     let F = numbersOf (a .format) in
@@ -116,7 +129,7 @@ returns-2 c =
     copied-whole (take n (array bits)) (a .output .now) (copy .copy .last .1 .0) (copy .copy .ensures .1)
     ∙ ap (λ (t : List ℕ). t ++ drop (length t) (a .output .now)) (stands bits)
     ∙ ap (λ (i : ℕ). telegram bits ++ drop i (a .output .now)) (size bits) in
-    telegram-made (a .format) (a .block .now) (a .b) (a .esb) (a .output .now) (s .pre) (sym (tested (left .before)) ∙ not-false _ (left .if1 .left))
+    telegram-made (a .format) (a .block .now) (a .b) (a .esb) (a .output .now) (s .pre) (whole-all _ _ (sym (told call) ∙ left .enum-told .given .1))
     ∙ ap (outcome (Telegram (a .format))) (sym written)
 
 pub write-telegram-spec : {M : Type 1} → statement M
@@ -128,9 +141,11 @@ write-telegram-spec =
     telegram-bits-requires
     words-requires
     array-share-prefix-telegram
-    slice-aggregate-all-words
-    all-words-requires
+    slice-aggregate-go-through
+    go-through-requires
+    enum-known-bad
     returns
+    enum-told
     array-share-prefix-telegram-2
     slice-aggregate-copy
     copy-requires

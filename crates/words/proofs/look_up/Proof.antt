@@ -1,80 +1,60 @@
--- `words::look_up` meets its contract: the rank is the number. Assumes nothing.
+-- `words::look_up` meets its contract: the marked rank is the number, or tells the kind. Assumes nothing.
+use mathlib.Core.Path.{ap, _∙_}
 use Prim.Native.Nat.{_<_}
 use native.Mathlib.Omega.{arith}
 use borrow.Author.Needs.{needs}
-use Rattle.words.proofs.Ranks.{rank, divides, few, rank-small, marked-none, marked-number}
+use Rattle.words.specs.declared.Kind.{Kind}
+use Rattle.words.specs.declared.Lookup.the-variants.{NotInTable}
+use Rattle.words.proofs.Ranks.{rank, divides, few, rank-small}
+use Rattle.words.proofs.Marked.{marked-number, marked-kind}
 use Rattle.words.proofs.look_up.Statement.{statement}
 use Rattle.words.proofs.look_up.Tie as tie
 
-part-at-requires : tie.Need-part-at-requires
-part-at-requires c κs = search needs
-
-cast-absent : tie.Need-cast-absent
-cast-absent c = search needs
-
-shr-absent : tie.Need-shr-absent
-shr-absent c = search needs
-
-sub-absent : tie.Need-sub-absent
-sub-absent c = search needs
-
-cast-below : tie.Need-cast-below
-cast-below c = search needs
-
-shl-below : tie.Need-shl-below
-shl-below c = search needs
-
 rem-below : tie.Need-rem-below
-rem-below c = divides (c .before .args .word)
+rem-below c = divides (c .before .before .before .before .args .word)
 
 cast-below-2 : tie.Need-cast-below-2
-cast-below-2 c = record { fits = omega (arith, few (c .part-at .result .words) (c .before .args .word)) }
+cast-below-2 c =
+    let part = c .before .before .before in
+    record { fits = omega (arith, few (part .part-at .result .words) (part .before .args .word)) }
 
-small : (c : tie.After-struct-known)
-    → rank (c .before .part-at .result .words) (c .before .part-at .result .before) (c .before .before .args .word) < 2048
+small : (c : tie.After-struct-known3) → let part = c .before .before .before .before in
+    rank (part .part-at .result .words) (part .part-at .result .before) (part .before .args .word) < 2048
 small c =
-    let facts = c .before .part-at .ensures in
-    rank-small (c .before .before .args .word) _ (facts .0) _ (facts .1)
+    let part = c .before .before .before .before in
+    rank-small (part .before .args .word) _ (part .part-at .ensures .0) _ (part .part-at .ensures .1)
 
-add-number : tie.Need-add-number
-add-number c = record { fits = omega (arith, small c) }
+add-rank : tie.Need-add-rank
+add-rank c = record { fits = omega (arith, small c) }
 
-cast-number : tie.Need-cast-number
-cast-number c = search needs
-
-mul-number : tie.Need-mul-number
-mul-number c = search needs
-
-add-number-2 : tie.Need-add-number-2
-add-number-2 c = record { fits = omega (arith, small c) }
+add-rank-2 : tie.Need-add-rank-2
+add-rank-2 c = record { fits = omega (arith, small c) }
 
 returns : tie.Need-returns
 returns c =
-    let part = c .before .before in
-    let facts = part .part-at .ensures in
-    marked-none (part .before .args .word) _ (facts .0) _ (facts .1) (c .if1 .taken)
+    let barred = c .before .before .before .before .before in
+    let part = barred .before in
+    marked-number (part .before .args .word) _ (part .part-at .ensures .0) _ (part .part-at .ensures .1) _ _ (barred .barred-at .ensures .1)
+    (barred .barred-at .ensures .0) (c .if1 .taken)
 
 returns-2 : tie.Need-returns-2
 returns-2 c =
-    let part = c .before .before in
-    let facts = part .part-at .ensures in
-    marked-number (part .before .args .word) _ (facts .0) _ (facts .1) (omega arith)
+    let kind = c .before in
+    let barred = kind .before .before .before .before in
+    let part = barred .before in
+    ap (λ (k : Kind). NotInTable k) (kind .kind-marked .ensures)
+    ∙ marked-kind (part .before .args .word) _ (part .part-at .ensures .0) _ (part .part-at .ensures .1) _ _ (barred .barred-at .ensures .1)
+    (barred .barred-at .ensures .0) (omega arith)
 
 pub look-up-spec : {M : Type 1} → statement M
 look-up-spec =
     tie.close
     (tie.spec
-    part-at-requires
-    cast-absent
-    shr-absent
-    sub-absent
-    cast-below
-    shl-below
-    rem-below
-    cast-below-2
-    add-number
-    cast-number
-    mul-number
-    add-number-2
-    returns
-    returns-2)
+    (λ c κs. search needs) (λ c κs. search needs)
+    (λ c. search needs) (λ c. search needs) (λ c. search needs)
+    (λ c. search needs) (λ c. search needs) (λ c. search needs) (λ c. search needs) (λ c. search needs) (λ c. search needs) (λ c. search needs)
+    (λ c. search needs) (λ c. search needs)
+    rem-below cast-below-2
+    add-rank (λ c. search needs) (λ c. search needs) add-rank-2
+    (λ c κs. search needs)
+    returns returns-2)

@@ -17,6 +17,10 @@ found-fields-requires c κs =
     let fits = subst (λ (a : ReadAnswer). Fits readSizes (readValues a)) (c .before .answer .given .1) (c .before .before .before .pre) in
     search (arith, fits)
 
+refusal-fields-requires : tie.Need-refusal-fields-requires
+refusal-fields-requires c κs =
+    subst (λ (a : ReadAnswer). Fits readSizes (readValues a)) (c .before .answer2 .given .1) (c .before .before .before .pre)
+
 returns : tie.Need-returns
 returns c = omega (arith, ap number (c .before .before .answer .given .1))
 
@@ -28,5 +32,5 @@ read-spec =
     tie.close
     (tie.spec
     (λ c. search needs) found-fields-requires
-    (λ c. search needs) (λ c κs. search needs) (λ c. search needs)
+    (λ c. search needs) refusal-fields-requires
     returns returns-2)

@@ -1,6 +1,6 @@
 -- `reader::telegram::read_telegram` meets its contract: the answer at each test, and the user bits where all are passed. Assumes nothing.
-use mathlib.Core.Path.{_≡_, refl, sym, ap, ap₂, _∙_}
-use mathlib.Core.Bool.{Bool, true, false}
+use mathlib.Core.Path.{_≡_, sym, ap, ap₂, _∙_}
+use mathlib.Core.Bool.{true}
 use mathlib.Core.List.{List, _++_}
 use Prim.Native.Nat.{ℕ, _*_}
 use native.Mathlib.Omega.{arith}
@@ -9,31 +9,24 @@ use borrow.Author.Tests.{not-true, not-false}
 use lib.ListN.{drop, replicate}
 use lib.Seq.{length-take-le}
 use Rattle.bits.specs.Bits.{same}
-use Rattle.bits.proofs.Tests.{holds, clash}
+use Rattle.bits.proofs.Tests.{holds}
 use Rattle.formats.specs.Numbers.{numbersOf, blocks}
+use Rattle.words.specs.declared.BadWord.{BadWord}
+use Rattle.refusals.specs.declared.Refusal.the-variants.{NotWord}
 use Rattle.refusals.specs.Outcome.{outcome}
 use Rattle.formats.proofs.Sizes.{sizesOf, block-between}
-use Rattle.telegrams.specs.declared.undoing.Unshaped.the-variants.{Whole, NotWord}
 use Rattle.telegrams.specs.Telegram.{control}
 use Rattle.telegrams.specs.Fields.{controlOf, allWords, unshaped}
-use Rattle.telegrams.specs.Unshaped.{wholeIf}
+use Rattle.telegrams.specs.Worded.{worded}
+use Rattle.telegrams.proofs.FirstBad.{whole-all, not-word-some}
 use Rattle.telegrams.proofs.Shaping.{length-unshaped, bits-unshaped}
 use Rattle.telegrams.proofs.Buffers.UserBits.{data-blocks, user-bits}
 use Rattle.reader.specs.declared.Reading.{Reading}
-use Rattle.reader.specs.declared.ReadAnswer.the-variants.{Read}
+use Rattle.reader.specs.declared.ReadAnswer.the-variants.{Read, Refused}
 use Rattle.reader.specs.Reads.{readingOf}
 use Rattle.reader.proofs.Steps.{control-refused, word-refused, condition-refused, telegram-read}
 use Rattle.reader.proofs.telegram.read_telegram.Statement.{statement}
 use Rattle.reader.proofs.telegram.read_telegram.Tie as tie
-
--- what the answer of unshaping tells
-other-word : (x : Bool) → NotWord ≡ wholeIf x → x ≡ false
-other-word true e = clash cc
-other-word false e = refl
-
-whole-words : (x : Bool) → Whole ≡ wholeIf x → x ≡ true
-whole-words true e = refl
-whole-words false e = clash cc
 
 -- the array that the blocks go into
 abbrev zeros : List ℕ
@@ -66,38 +59,40 @@ unshape-requires c κs =
     let S = sizesOf (start .args .format) in
     (start .pre .0, (omega (arith, S), omega (arith, S, block-between (start .args .format))))
 
-enum-told : tie.Need-enum-told
-enum-told c = search needs
+enum-known-answer : tie.Need-enum-known-answer
+enum-known-answer c = search needs
 
 returns-2 : tie.Need-returns-2
 returns-2 c =
-    let call = c .before .before .before in
+    let found = c .before in
+    let call = found .before .before .before in
     let words = call .before .before in
     let a = words .before .before .before .before .before .args in
-    let other = other-word (allWords (words .words .result) (a .telegram .now)) (sym (c .enum-told .given .1) ∙ call .unshape .ensures .0) in
-    word-refused (a .asked) (a .format) (a .t) (a .flipped) (a .telegram .now) (a .output .now) (controlled (words .before))
-    (ap (λ (k : ℕ). allWords k (a .telegram .now)) (sym (words .words .ensures)) ∙ other)
+    let told = ap (λ (k : ℕ). worded k (a .telegram .now)) (sym (words .words .ensures)) ∙ sym (call .unshape .ensures .0) ∙ found .answer .given .1 in
+    let (some, is) = not-word-some _ _ (found .answer .given .0 .0) told in
+    word-refused (a .asked) (a .format) (a .t) (a .flipped) (a .telegram .now) (a .output .now) (controlled (words .before)) some
+    ∙ ap (λ (bad : BadWord). outcome (Refused (NotWord bad)) (a .output .now)) is
 
-enum-told-2 : tie.Need-enum-told-2
-enum-told-2 c = search needs
+enum-told : tie.Need-enum-told
+enum-told c = search needs
 
 -- all words are in the table
-worded : (c : tie.After-enum-told2) →
+all-words : (c : tie.After-enum-told) →
     let words = c .before .before .before .before .before in
     allWords (words .words .result) (words .before .before .before .before .before .args .telegram .now) ≡ true
-worded c =
+all-words c =
     let call = c .before .before .before in
     let words = call .before .before in
     let b = words .before .before .before .before .before .args .telegram .now in
-    whole-words (allWords (words .words .result) b) (sym (c .enum-told2 .given .1) ∙ call .unshape .ensures .0)
+    whole-all b (words .words .result) (sym (call .unshape .ensures .0) ∙ c .enum-told .given .1)
 
 -- and their blocks stand in the array
-filled : (c : tie.After-enum-told2) →
+filled : (c : tie.After-enum-told) →
     let call = c .before .before .before in
     let words = call .before .before in
     let b = words .before .before .before .before .before .args .telegram .now in
     call .unshape .last .1 .1 .0 ≡ unshaped (words .words .result) b ++ drop (10 * words .words .result) zeros
-filled c = c .before .before .before .unshape .ensures .1 (holds _ (worded c))
+filled c = c .before .before .before .unshape .ensures .1 (holds _ (all-words c))
 
 first-failing-requires : tie.Need-first-failing-requires
 first-failing-requires c κs =
@@ -108,13 +103,13 @@ enum-known-refusal : tie.Need-enum-known-refusal
 enum-known-refusal c = search needs
 
 -- all words are those of the format
-all-worded : (c : tie.After-enum-told2) →
+all-worded : (c : tie.After-enum-told) →
     let a = c .before .before .before .before .before .before .before .before .before .before .args in
     allWords (numbersOf (a .format) .words) (a .telegram .now) ≡ true
 all-worded c =
     let words = c .before .before .before .before .before in
     let b = words .before .before .before .before .before .args .telegram .now in
-    ap (λ (k : ℕ). allWords k b) (sym (words .words .ensures)) ∙ worded c
+    ap (λ (k : ℕ). allWords k b) (sym (words .words .ensures)) ∙ all-words c
 
 returns-3 : tie.Need-returns-3
 returns-3 c =
@@ -126,8 +121,8 @@ returns-3 c =
     condition-refused (a .asked) (a .format) (a .t) (a .flipped) (a .telegram .now) (a .output .now) (controlled (words .before)) (all-worded told)
     (found .refusal .given .0 .0) (sym (call .first-failing .ensures) ∙ found .refusal .given .1)
 
-enum-told-3 : tie.Need-enum-told-3
-enum-told-3 c = search needs
+enum-told-2 : tie.Need-enum-told-2
+enum-told-2 c = search needs
 
 scrambling-bits-requires : tie.Need-scrambling-bits-requires
 scrambling-bits-requires c κs = search needs
@@ -196,7 +191,7 @@ returns-4 c =
     (words .words .ensures) (bits .user-bits .ensures) (filled told)
     B B-is (a .output .now) (wrote .write-user-bits .last .1 .1 .0) (wrote .write-user-bits .ensures) in
     telegram-read (a .asked) (a .format) (a .t) (a .flipped) b (a .output .now) (controlled (words .before)) (all-worded told)
-    (sym (tests .first-failing .ensures) ∙ none .enum-told3 .given .1)
+    (sym (tests .first-failing .ensures) ∙ none .enum-told2 .given .1)
     ∙ ap₂ (λ (r : Reading) (o : List ℕ). outcome (Read r) o) (ap₂ reading (sym B-is) (sym esb-is)) (sym written)
 
 pub read-telegram-spec : {M : Type 1} → statement M
@@ -208,13 +203,13 @@ read-telegram-spec =
     words-requires
     slice-aggregate-unshape
     unshape-requires
-    enum-told
+    enum-known-answer
     returns-2
-    enum-told-2
+    enum-told
     first-failing-requires
     enum-known-refusal
     returns-3
-    enum-told-3
+    enum-told-2
     scrambling-bits-requires
     shaping-bits-requires
     user-bits-requires

@@ -1,7 +1,7 @@
 -- `telegrams::undoing::unshape` meets its contract. The loop's invariant: the blocks of the first j words stand in front, the rest is as it
--- was, and the test of all words is that of the words not yet passed. Assumes nothing.
+-- was, and the first bad word is that of the words not yet passed. Assumes nothing.
 use mathlib.Core.Path.{_≡_, refl, sym, ap, _∙_}
-use mathlib.Core.Bool.{Bool, true, false, _&&_}
+use mathlib.Core.Bool.{not}
 use mathlib.Core.List.{_++_}
 use Prim.Native.Nat.{ℕ, _+_, _*_, _-_, _≤_}
 use native.Mathlib.Omega.{arith}
@@ -9,21 +9,24 @@ use borrow.Author.Needs.{needs}
 use lib.ListN.{length, take, drop, length-drop}
 use Rattle.bits.specs.Bits.{numberOf, bitsOf}
 use Rattle.bits.specs.Groups.{overGroups}
+use Rattle.bits.specs.Search.{firstOf}
 use Rattle.bits.proofs.AllBits.{allBits-drop}
-use Rattle.bits.proofs.Groups.{groups-next, groups-done}
+use Rattle.bits.proofs.Left.{Left, left-all, left-fewer, left-found, left-none}
 use Rattle.bits.proofs.Parts.{front-below}
 use Rattle.bits.proofs.Tests.{fails}
+use Rattle.words.specs.declared.Lookup.{Lookup}
 use Rattle.words.specs.Words.{lookupOf, isNumber, isWord, numberIn}
 use Rattle.telegrams.specs.Fields.{allWords, unshaped}
-use Rattle.telegrams.specs.Unshaped.{wholeIf}
+use Rattle.telegrams.specs.Worded.{isBad}
 use Rattle.telegrams.proofs.Shaping.{blockOfWord, length-block}
+use Rattle.telegrams.proofs.FirstBad.{none-whole, found-some, found-not-word}
 use Rattle.telegrams.proofs.Buffers.Fronts.{lent-is, group-more}
 use Rattle.telegrams.proofs.undoing.unshape.Statement.{statement}
 use Rattle.telegrams.proofs.undoing.unshape.Tie as tie
 
 abbrev Inv-loop : tie.InvT-loop
 Inv-loop telegram k out₀ j₀ out j =
-    (j ≤ k) × (length out ≡ length out₀) × (allWords k telegram ≡ allWords (k - j) (drop (11 * j) telegram))
+    (j ≤ k) × (length out ≡ length out₀) × Left (isBad telegram) (firstOf (isBad telegram) 0 k) k j
     × (out ≡ unshaped j telegram ++ drop (10 * j) out₀)
 
 abbrev μ-loop : tie.MeasureT-loop
@@ -31,10 +34,7 @@ abbrev μ-loop : tie.MeasureT-loop
 
 loop-holds : tie.Need-loop-holds Inv-loop μ-loop
 unfolding overGroups
-loop-holds c =
-    let a = c .before .before .args in
-    let all : a .k ≡ a .k - 0 = omega arith in
-    (omega arith, refl, ap (λ (i : ℕ). allWords i (a .telegram .now)) all, refl)
+loop-holds c = (omega arith, refl, left-all _ _, refl)
 
 mul-number : tie.Need-mul-number Inv-loop μ-loop
 mul-number c = omega arith
@@ -58,12 +58,12 @@ found : (c : tie.After-look-up Inv-loop μ-loop) →
     lookupOf (numberOf (take 11 (drop (11 * l .loop .j) (l .before .before .before .args .telegram .now)))) ≡ c .look-up .result
 found c = sym (c .look-up .ensures ∙ ap lookupOf (c .before .number .ensures))
 
--- and whether it is in the table
+-- and whether it is bad
 next : (c : tie.After-look-up Inv-loop μ-loop) →
     let l = c .before .before .before in
-    isWord (take 11 (drop (11 * l .loop .j) (l .before .before .before .args .telegram .now))) ≡ isNumber (c .look-up .result)
-unfolding isWord
-next c = ap isNumber (found c)
+    isBad (l .before .before .before .args .telegram .now) (l .loop .j) ≡ not (isNumber (c .look-up .result))
+unfolding isBad isWord
+next c = ap (λ (r : Lookup). not (isNumber r)) (found c)
 
 enum-known-i : tie.Need-enum-known-i Inv-loop μ-loop
 enum-known-i c = search needs
@@ -71,19 +71,20 @@ enum-known-i c = search needs
 enum-told : tie.Need-enum-told Inv-loop μ-loop
 enum-told c = search needs
 
+not-word-requires : tie.Need-not-word-requires Inv-loop μ-loop
+not-word-requires c κs = (c .before .before .before .before .before .before .before .before .pre .0, omega arith)
+
 same-length : tie.Need-same-length Inv-loop μ-loop
-same-length c = c .before .before .before .before .before .loop .inv .1
+same-length c = c .before .before .before .before .before .before .loop .inv .1
 
 returns : tie.Need-returns Inv-loop μ-loop
 returns c =
-    let l = c .before .before .before .before .before in
+    let told = c .before in
+    let look = told .before .before in
+    let l = look .before .before .before in
     let a = l .before .before .before .args in
-    let j = l .loop .j in
-    let others = allWords (a .k - (j + 1)) (drop (11 * (j + 1)) (a .telegram .now)) in
-    let none : allWords (a .k) (a .telegram .now) ≡ false =
-    l .loop .inv .2 ∙ groups-next _&&_ true isWord 11 (a .k) j (a .telegram .now) (omega arith)
-    ∙ ap (λ (t : Bool). t && others) (next (c .before .before) ∙ ap isNumber (c .enum-told .given .1)) in
-    (ap wholeIf (sym none), λ h. absurd (fails (allWords (a .k) (a .telegram .now)) none h))
+    let bad = left-found (l .loop .inv .2) (omega arith) (next look ∙ ap (λ (r : Lookup). not (isNumber r)) (told .enum-told .given .1)) in
+    (c .not-word .ensures ∙ sym (found-not-word _ _ _ bad), λ h. absurd (fails (allWords (a .k) (a .telegram .now)) (found-some _ _ _ bad) h))
 
 mul-at : tie.Need-mul-at Inv-loop μ-loop
 mul-at c = omega arith
@@ -123,11 +124,10 @@ loop-again c =
     let old = start .args .out .now in
     let j = l .loop .j in
     let i = word .i .given .0 .0 in
-    let others = allWords (k - (j + 1)) (drop (11 * (j + 1)) b) in
     let number : i ≡ numberIn (lookupOf (numberOf (take 11 (drop (11 * j) b)))) = sym (ap numberIn (found look ∙ word .i .given .1)) in (
       omega arith,
       omega arith,
-      l .loop .inv .2 ∙ groups-next _&&_ true isWord 11 k j b (omega arith) ∙ ap (λ (t : Bool). t && others) (next look ∙ ap isNumber (word .i .given .1)),
+      left-fewer (l .loop .inv .2) (omega arith) (next look ∙ ap (λ (r : Lookup). not (isNumber r)) (word .i .given .1)),
       group-more blockOfWord 11 10 length-block j b old (l .loop .out) (called .write-number .last .0) (bitsOf 10 i) (l .loop .inv .3)
           (ap (bitsOf 10) number) (called .write-number .ensures),
     )
@@ -140,9 +140,8 @@ returns-2 c =
     let l = c .before in
     let a = l .before .before .before .args in
     let all : l .loop .j ≡ a .k = omega arith in
-    let whole : allWords (a .k) (a .telegram .now) ≡ true =
-    l .loop .inv .2 ∙ groups-done _&&_ true isWord 11 (a .k) (l .loop .j) (drop (11 * l .loop .j) (a .telegram .now)) (omega arith) in (
-      ap wholeIf (sym whole),
+    (
+      sym (none-whole _ _ (left-none (l .loop .inv .2) (omega arith))),
       λ h. l .loop .inv .3 ∙ ap (λ (j : ℕ). unshaped j (a .telegram .now) ++ drop (10 * j) (a .out .now)) all,
     )
 
@@ -159,6 +158,7 @@ unshape-spec =
     look-up-requires
     enum-known-i
     enum-told
+    not-word-requires
     same-length
     returns
     mul-at
