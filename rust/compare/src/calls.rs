@@ -1,36 +1,65 @@
-//! The public calls of both programs on one input. They must answer the same
-//! and leave the same bytes.
+//! The public calls of both programs on one input. They must answer the same,
+//! with what a refusal carries, and leave the same bytes.
 
-use balise::Refusal;
 use second::bits::{flip, turn_right};
 use second::format::Format;
 use second::random::Random;
 use second::telegram::cut;
-use second::{Encoded, Found, Reading, Refused};
-use std::collections::BTreeMap;
+use second::{Encoded, Found, Kind, Reading, Refusal};
+use std::collections::{BTreeMap, BTreeSet};
 
-/// How often each number was answered; 0 stands for no refusal.
+/// How often each number was answered; 0 stands for no refusal. And how often
+/// refusal 9 named each index and kind.
 #[derive(Default)]
-pub struct Tally(BTreeMap<u8, usize>);
+pub struct Tally {
+    numbers: BTreeMap<u8, usize>,
+    words: BTreeMap<(usize, Kind), usize>,
+}
 
 impl Tally {
-    pub fn add<T>(&mut self, answer: Result<T, u8>) {
-        *self.0.entry(answer.err().unwrap_or(0)).or_default() += 1;
+    pub fn add<T>(&mut self, answer: Result<T, Refusal>) {
+        let refusal = answer.err();
+        let number = refusal.map_or(0, Refusal::number);
+        *self.numbers.entry(number).or_default() += 1;
+        if let Some(Refusal::Word { kind, index }) = refusal {
+            *self.words.entry((index, kind)).or_default() += 1;
+        }
     }
 
     /// The numbers that were answered.
     pub fn numbers(&self) -> Vec<u8> {
-        self.0.keys().copied().collect()
+        self.numbers.keys().copied().collect()
+    }
+
+    /// The bad words that were named, each by its index and kind.
+    pub fn words(&self) -> BTreeSet<(usize, Kind)> {
+        self.words.keys().copied().collect()
+    }
+
+    /// The kinds that were named.
+    pub fn kinds(&self) -> BTreeSet<Kind> {
+        self.words.keys().map(|&(_, kind)| kind).collect()
+    }
+
+    /// The indices that were named.
+    pub fn indices(&self) -> BTreeSet<usize> {
+        self.words.keys().map(|&(index, _)| index).collect()
     }
 
     pub fn total(&self) -> usize {
-        self.0.values().sum()
+        self.numbers.values().sum()
     }
 
     pub fn print(&self, what: &str) {
         println!("{} {what}", self.total());
-        for (number, count) in &self.0 {
+        for (number, count) in &self.numbers {
             println!("{number:>4}: {count}");
+        }
+        for kind in self.kinds() {
+            let of_kind = self.words.iter().filter(|((_, other), _)| *other == kind);
+            let (indices, words) = of_kind.fold((0, 0), |(i, n), (_, count)| (i + 1, n + count));
+            let name = kind.name();
+            println!("      of kind {name}: {words}, at {indices} indices");
         }
     }
 }
@@ -53,13 +82,18 @@ fn reading(reading: balise::Reading) -> Reading {
 }
 
 /// A refusal as the second program gives it.
-fn refused(refusal: Refusal) -> Refused {
-    Refused {
-        number: refusal.number(),
-        count: match refusal {
-            Refusal::NoPair { tried } => tried,
-            _ => 0,
+fn refusal(refusal: balise::Refusal) -> Refusal {
+    match refusal {
+        balise::Refusal::NoPair { tried } => Refusal::NoPair { tried },
+        balise::Refusal::NotWord { kind, index } => Refusal::Word {
+            kind: match kind {
+                balise::Kind::Group250 => Kind::Group250,
+                balise::Kind::Group20 => Kind::Group20,
+                balise::Kind::Other => Kind::Other,
+            },
+            index,
         },
+        other => Refusal::Number(other.number()),
     }
 }
 
@@ -69,18 +103,18 @@ const GUARD: usize = 32;
 /// Runs both programs on outputs of this length with the same random bytes,
 /// between the same guard bytes. Beyond the first `written` bytes, and
 /// everywhere on a refusal, the bytes must be kept.
-fn compared<T: std::fmt::Debug + PartialEq, R: std::fmt::Debug + PartialEq>(
+fn compared<T: std::fmt::Debug + PartialEq>(
     random: &mut Random,
     room: usize,
-    ours: impl FnOnce(&mut [u8]) -> Result<T, R>,
-    second: impl FnOnce(&mut [u8]) -> Result<T, R>,
+    ours: impl FnOnce(&mut [u8]) -> Result<T, balise::Refusal>,
+    second: impl FnOnce(&mut [u8]) -> Result<T, Refusal>,
     written: impl FnOnce(&T) -> usize,
-) -> (Result<T, R>, Vec<u8>) {
+) -> (Result<T, Refusal>, Vec<u8>) {
     let before: Vec<u8> = (0..room + 2 * GUARD)
         .map(|_| random.number() as u8)
         .collect();
     let (mut output, mut other) = (before.clone(), before.clone());
-    let answer = ours(&mut output[GUARD..][..room]);
+    let answer = ours(&mut output[GUARD..][..room]).map_err(refusal);
     assert_eq!(answer, second(&mut other[GUARD..][..room]));
     assert_eq!(output, other);
     let end = GUARD + answer.as_ref().map_or(0, written);
@@ -91,7 +125,7 @@ fn compared<T: std::fmt::Debug + PartialEq, R: std::fmt::Debug + PartialEq>(
 }
 
 /// The second program's encoder, or its quicker one.
-pub type Encoder = fn(&[u8], &mut [u8]) -> Result<Encoded, Refused>;
+pub type Encoder = fn(&[u8], &mut [u8]) -> Result<Encoded, Refusal>;
 
 /// Encodes a block into an output of this length: the answer and the output.
 pub fn encode(
@@ -99,20 +133,17 @@ pub fn encode(
     second: Encoder,
     block: &[u8],
     room: usize,
-) -> (Result<Encoded, Refused>, Vec<u8>) {
-    let ours = |output: &mut [u8]| match balise::encode(block, output) {
-        Ok(encoded) => Ok(Encoded {
-            format: format(encoded.format),
-            b: encoded.b,
-            esb: encoded.esb,
-            count: encoded.count,
-        }),
-        Err(refusal) => Err(refused(refusal)),
+) -> (Result<Encoded, Refusal>, Vec<u8>) {
+    let encoded = |encoded: balise::Encoded| Encoded {
+        format: format(encoded.format),
+        b: encoded.b,
+        esb: encoded.esb,
+        count: encoded.count,
     };
     compared(
         random,
         room,
-        ours,
+        |output| balise::encode(block, output).map(encoded),
         |output| second(block, output),
         |encoded| encoded.format.telegram_bits(),
     )
@@ -126,15 +157,11 @@ pub fn make(
     b: u64,
     esb: u64,
     room: usize,
-) -> (Result<Format, u8>, Vec<u8>) {
-    let ours = |output: &mut [u8]| {
-        let answer = balise::make(block, b, esb, output);
-        answer.map(format).map_err(Refusal::number)
-    };
+) -> (Result<Format, Refusal>, Vec<u8>) {
     compared(
         random,
         room,
-        ours,
+        |output| balise::make(block, b, esb, output).map(format),
         |output| second::make(block, b, esb, output),
         |format| format.telegram_bits(),
     )
@@ -153,24 +180,24 @@ pub fn make_again(random: &mut Random, window: &[u8], reading: &Reading, user: &
 }
 
 /// Checks a telegram.
-pub fn check(telegram: &[u8]) -> Result<Format, u8> {
-    let answer = balise::check(telegram).map(format).map_err(Refusal::number);
+pub fn check(telegram: &[u8]) -> Result<Format, Refusal> {
+    let answer = balise::check(telegram).map(format).map_err(refusal);
     assert_eq!(answer, second::check(telegram));
     answer
 }
 
 /// A window call of ours, and that of the second program.
-type Ours = fn(&[u8], &mut [u8]) -> Result<balise::Reading, Refusal>;
-type Second = fn(&[u8], &mut [u8]) -> Result<Reading, u8>;
+type Ours = fn(&[u8], &mut [u8]) -> Result<balise::Reading, balise::Refusal>;
+type Second = fn(&[u8], &mut [u8]) -> Result<Reading, Refusal>;
 
 /// What a window call answers, and the output.
-type Read = (Result<Reading, u8>, Vec<u8>);
+type Read = (Result<Reading, Refusal>, Vec<u8>);
 
 fn read_by(random: &mut Random, ours: Ours, second: Second, window: &[u8], room: usize) -> Read {
     compared(
         random,
         room,
-        |output| ours(window, output).map(reading).map_err(Refusal::number),
+        |output| ours(window, output).map(reading),
         |output| second(window, output),
         |reading| reading.format.user_bits(),
     )
@@ -191,7 +218,7 @@ pub fn read_well_formed(random: &mut Random, window: &[u8], room: usize) -> Read
 /// and write the same, and `check` accepts the telegram in the window; or the
 /// second accepts, and the first refuses with what `check` gives for it: 10, 11
 /// or 12. The telegram that was read is made again.
-pub fn read_both(random: &mut Random, window: &[u8], room: usize) -> [Result<Reading, u8>; 2] {
+pub fn read_both(random: &mut Random, window: &[u8], room: usize) -> [Result<Reading, Refusal>; 2] {
     let (proper, output) = read(random, window, room);
     let (well_formed, other) = read_well_formed(random, window, room);
     match (proper, well_formed) {
@@ -201,7 +228,7 @@ pub fn read_both(random: &mut Random, window: &[u8], room: usize) -> [Result<Rea
             assert_eq!(one, other_one);
             assert_eq!(output[..m], other[..m]);
         }
-        (Err(10..=12), Ok(_)) => {}
+        (Err(Refusal::Number(10..=12)), Ok(_)) => {}
         answers => panic!("{answers:?}"),
     }
     if let Ok(reading) = well_formed {
@@ -224,7 +251,7 @@ fn telegram_in(window: &[u8], reading: &Reading) -> Vec<u8> {
 
 /// Searches a capture; the stretch is the window found, in the capture itself,
 /// and both window calls read it as the search says. Its telegram is made again.
-pub fn search(random: &mut Random, capture: &[u8]) -> Result<Found, u8> {
+pub fn search(random: &mut Random, capture: &[u8]) -> Result<Found, Refusal> {
     let second = second::search(capture);
     let stretch = balise::stretch(capture);
     match (balise::search(capture), &second) {
@@ -240,8 +267,8 @@ pub fn search(random: &mut Random, capture: &[u8]) -> Result<Found, u8> {
             }
             make_again(random, stretch, &found.reading, &found.user);
         }
-        (Err(refusal), Err(other)) => {
-            assert_eq!(refusal.number(), *other);
+        (Err(ours), Err(other)) => {
+            assert_eq!(refusal(ours), *other);
             assert!(stretch.is_empty());
         }
         (ours, found) => panic!("{ours:?}, and the second program {found:?}"),

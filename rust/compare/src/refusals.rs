@@ -1,15 +1,19 @@
 //! Inputs that provoke each refusal (document 01, "When the bench says no"; of
-//! the window calls, document 02, No. 2, and of make, No. 11).
+//! the window calls, document 02, No. 2, of make, No. 11, and of a word that is not
+//! in the table, No. 13).
 
 use crate::telegrams::*;
-use balise::Refusal;
+use balise::{Kind, Refusal};
 use second::appendices::{block_without_a_pair, well_formed_not_proper};
+use second::bad_words::{bad_words, word_of_kind, BadWord};
 use second::bits::{flip, turn_left};
+use second::conditions::failing_conditions;
 use second::encode::PAIRS;
 use second::format::{Format, FORMATS};
 use second::random::Random;
 use second::refusal;
-use second::telegram::cut;
+use second::telegram::{self, cut};
+use second::words::KINDS;
 
 /// A call with its input, and the length of the output that it is lent.
 #[derive(Clone, Debug)]
@@ -97,6 +101,38 @@ fn all_three(refusal: Refusal, telegram: Vec<u8>, format: Format) -> Vec<(Refusa
     calls
 }
 
+/// Refusal 9 of a word.
+fn not_word((index, kind): BadWord) -> Refusal {
+    let kind = match kind {
+        second::Kind::Group250 => Kind::Group250,
+        second::Kind::Group20 => Kind::Group20,
+        second::Kind::Other => Kind::Other,
+    };
+    Refusal::NotWord { kind, index }
+}
+
+/// A word of each kind at the first, some and the last index of the shaped data,
+/// and windows of these telegrams at any turn, both ways up. The check bits are put
+/// right, so that as a rule some of the last ten words are bad as well.
+fn no_words(random: &mut Random, format: Format) -> Vec<(Refusal, Call)> {
+    let (m, l) = (format.user_bits(), format.window_bits());
+    let telegram = random_telegram(random, format);
+    let last = format.blocks() - 1;
+    let mut calls = Vec::new();
+    for kind in KINDS {
+        for index in [0, random.below(last), last] {
+            let refusal = not_word((index, kind));
+            let other = with_word(&telegram, format, index, word_of_kind(random, kind));
+            for flipped in [false, true] {
+                let window = cut(&other, random.below(other.len()), l, flipped);
+                calls.extend(both_read(refusal, window, m));
+            }
+            calls.extend(all_three(refusal, other, format));
+        }
+    }
+    calls
+}
+
 /// Telegrams and windows that are not well-formed: refusals 5 to 9.
 fn not_well_formed(random: &mut Random, format: Format) -> Vec<(Refusal, Call)> {
     let (m, l) = (format.user_bits(), format.window_bits());
@@ -106,7 +142,6 @@ fn not_well_formed(random: &mut Random, format: Format) -> Vec<(Refusal, Call)> 
     let mut damaged = telegram.clone();
     damaged[0] ^= 1;
     let no_control = with_bits(&telegram, format, format.shaped_bits(), &[0, 0, 0]);
-    let no_word = with_word(&telegram, format, 0, other_word(random));
     let mut calls = vec![
         (Refusal::NoTurn, Call::Check(turn_left(&telegram, 1))),
         (Refusal::Control, Call::Check(flip(&telegram))),
@@ -119,7 +154,7 @@ fn not_well_formed(random: &mut Random, format: Format) -> Vec<(Refusal, Call)> 
         format,
     ));
     calls.extend(all_three(Refusal::Control, no_control, format));
-    calls.extend(all_three(Refusal::NotWord, no_word, format));
+    calls.extend(no_words(random, format));
     calls
 }
 
@@ -129,15 +164,35 @@ fn not_proper() -> Vec<(Refusal, Call)> {
     let mut calls = Vec::new();
     for telegram in well_formed_not_proper() {
         let format = Format::of_telegram(telegram.len()).expect("a telegram");
-        let refusal = match second::check(&telegram) {
-            Err(refusal::OFF_STEP) => Refusal::OffStep,
-            Err(refusal::PERIOD) => Refusal::Repeating,
-            Err(refusal::THINNED) => Refusal::Thinned,
-            answer => panic!("{answer:?}"),
+        let refusal = match failing_conditions(&telegram, format).next() {
+            Some(refusal::OFF_STEP) => Refusal::OffStep,
+            Some(refusal::PERIOD) => Refusal::Repeating,
+            Some(refusal::THINNED) => Refusal::Thinned,
+            number => panic!("{number:?}"),
         };
         let window = cut(&telegram, 0, format.window_bits(), false);
         calls.push((refusal, Call::Check(telegram)));
         calls.push((refusal, Call::Read(window, format.user_bits())));
+    }
+    calls
+}
+
+/// For each kind the first esb with which the first bad word of a block's telegram
+/// is of it: refusal 9 of make and, with what make does not write, of the others. B
+/// is that of a pair, so that the word is one of the last nine.
+fn no_last_words(block: &[u8], b: u16, format: Format) -> Vec<(Refusal, Call)> {
+    let mut calls = Vec::new();
+    for kind in KINDS {
+        let with = |esb| {
+            let telegram = telegram::make(block, b, esb, format);
+            let first = *bad_words(&telegram).first()?;
+            (first.1 == kind).then_some((esb, telegram, not_word(first)))
+        };
+        let (esb, telegram, refusal) = (0..1024).find_map(with).expect("an esb");
+        let room = format.telegram_bits();
+        let make = Call::Make(block.to_vec(), b.into(), esb.into(), room);
+        calls.push((refusal, make));
+        calls.extend(all_three(refusal, telegram, format));
     }
     calls
 }
@@ -149,9 +204,9 @@ fn of_make(random: &mut Random, format: Format) -> Vec<(Refusal, Call)> {
     let block = random.bits(format.user_bits());
     let pair = encoded(&block).0;
     let (b, esb) = (u64::from(pair.b), u64::from(pair.esb));
-    let no_word = no_telegram(&block, pair.b, format).into();
     let longer = [&block[..], &[0]].concat();
-    vec![
+    let mut calls = no_last_words(&block, pair.b, format);
+    calls.extend([
         (Refusal::Length, Call::Make(longer, b, esb, n)),
         (
             Refusal::NotBit,
@@ -162,12 +217,9 @@ fn of_make(random: &mut Random, format: Format) -> Vec<(Refusal, Call)> {
             Call::Make(block.clone(), 4096, esb, n),
         ),
         (Refusal::PairTooLarge, Call::Make(block.clone(), b, 1024, n)),
-        (
-            Refusal::OutputShort,
-            Call::Make(block.clone(), b, esb, n - 1),
-        ),
-        (Refusal::NotWord, Call::Make(block, b, no_word, n)),
-    ]
+        (Refusal::OutputShort, Call::Make(block, b, esb, n - 1)),
+    ]);
+    calls
 }
 
 /// Every refusal, with inputs of every call that gives it.

@@ -9,6 +9,7 @@ use second::made::{bits_of_words, random_word};
 use second::random::Random;
 use second::telegram::{complete, make, well_formed};
 use second::words::valid;
+use second::Refusal;
 
 pub use second::made::{
     encoded, random_telegram, random_telegrams, telegram_of, with_bits, with_word,
@@ -81,7 +82,7 @@ pub fn barred(
     number: u8,
 ) -> Vec<u8> {
     drawn(random, format, draw, |telegram| {
-        well_formed(telegram, format) && check(telegram) == Err(number)
+        well_formed(telegram, format) && check(telegram) == Err(Refusal::Number(number))
     })
 }
 

@@ -1,9 +1,14 @@
 //! The examples of docs/BENCH.md: each command of its console blocks is run at
 //! the repository's root, and writes what the page shows. README.md's first
-//! command writes a telegram.
+//! command writes a telegram. The file examples/bad-words.txt is made again.
 
 use compare::documents::document;
 use compare::programs::{repository, run, stdout, tool};
+use compare::telegrams::with_word;
+use second::bits::{of_text, text};
+use second::telegram;
+use second::words::{of_bits, wrong, WORD_BITS};
+use second::{Format, Kind, Reading};
 use std::fs;
 use std::process::{Command, Stdio};
 
@@ -95,4 +100,29 @@ fn the_readmes_first_command_writes_a_telegram() {
     assert!(command.starts_with("./balise encode "));
     let answer = written(command).expect("an answer");
     assert_eq!(answer.lines().nth(3).expect("line four").len(), 1023);
+}
+
+/// Three times the telegram of the window in examples/window.txt, each with another
+/// word in the place of one of its own, and the check bits of that: a word of zeros,
+/// one of the group of 20, and its own word with one bit changed. Then what its block
+/// gives with an esb that is one less.
+#[test]
+fn the_file_of_bad_words() {
+    let window = of_text(document("examples/window.txt").as_bytes()).expect("bits");
+    let mut user = [0; Format::Short.user_bits()];
+    let Reading { format, b, esb, .. } = second::read(&window, &mut user).expect("a reading");
+    let telegram = telegram::make(&user, b, esb, format);
+    let own = of_bits(&telegram[13 * WORD_BITS..][..WORD_BITS]);
+    let changed = (0..WORD_BITS)
+        .map(|bit| own ^ 1 << bit)
+        .find(|&word| wrong(word) == Some(Kind::Other))
+        .expect("a word in neither group");
+    let telegrams = [
+        with_word(&telegram, format, 3, 0),
+        with_word(&telegram, format, 8, 0b01010101010),
+        with_word(&telegram, format, 13, changed),
+        telegram::make(&user, b, esb - 1, format),
+    ];
+    let lines = telegrams.map(|bits| text(&bits) + "\n").concat();
+    assert_eq!(document("examples/bad-words.txt"), lines);
 }

@@ -4,12 +4,13 @@
 
 use compare::calls::read_both;
 use second::random::Random;
+use second::Refusal;
 
 /// The refusal with which a window is answered, lent this room.
 fn refused(window: &[u8], room: usize) -> u8 {
     let [answer, other] = read_both(&mut Random::new(41), window, room);
     assert_eq!(answer, other);
-    answer.expect_err("a refusal")
+    answer.map_err(Refusal::number).expect_err("a refusal")
 }
 
 #[test]

@@ -6,6 +6,7 @@ use compare::telegrams::*;
 use second::format::{Format, FORMATS};
 use second::random::Random;
 use second::telegram::cut;
+use second::Refusal::Number;
 
 /// A list, and after it a window of a proper telegram, the bit before which is
 /// not the telegram's: the capture, the window's place and its turn.
@@ -28,12 +29,12 @@ fn only_a_window_that_is_not_proper() {
         let turn = random.below(telegram.len());
         for flipped in [false, true] {
             let window = cut(&telegram, turn, format.window_bits(), flipped);
-            assert_eq!(search(&mut random, &window), Err(13));
+            assert_eq!(search(&mut random, &window), Err(Number(13)));
             let [proper, well_formed] = read_both(&mut random, &window, 830);
-            assert!(matches!(proper, Err(10..=12)));
+            assert!(matches!(proper, Err(Number(10..=12))));
             assert_eq!(well_formed.map(|reading| reading.turn), Ok(turn));
             let capture = [random.bits(300), window, random.bits(300)].concat();
-            assert_eq!(search(&mut random, &capture), Err(13));
+            assert_eq!(search(&mut random, &capture), Err(Number(13)));
         }
     }
 }
@@ -66,7 +67,7 @@ fn going_round() {
             .filter(|t| t.len() == format.telegram_bits());
         for telegram in telegrams.step_by(9) {
             let front = cut(telegram, 3, 1900, true);
-            assert_eq!(search(&mut random, &front), Err(13));
+            assert_eq!(search(&mut random, &front), Err(Number(13)));
             let (capture, place, turn) = then_accepted(&mut random, &front, format);
             let found = search(&mut random, &capture).unwrap();
             assert_eq!((found.place, found.reading.turn), (place, turn));

@@ -16,6 +16,9 @@ use second::random::Random;
 use second::read::user_bits_of;
 use second::rings::other_steps_hold;
 use second::telegram::{make, well_formed};
+use second::words::{wrong, KINDS};
+use second::Refusal::{self, Number, Word};
+use std::collections::BTreeSet;
 
 /// Compares some telegrams.
 fn compare(tally: &mut Tally, telegrams: impl IntoIterator<Item = Vec<u8>>) {
@@ -25,14 +28,14 @@ fn compare(tally: &mut Tally, telegrams: impl IntoIterator<Item = Vec<u8>>) {
 }
 
 /// Compares a telegram whose answer is known.
-fn expect(tally: &mut Tally, telegram: &[u8], answer: Result<Format, u8>) {
+fn expect(tally: &mut Tally, telegram: &[u8], answer: Result<Format, Refusal>) {
     assert_eq!(check(telegram), answer);
     tally.add(answer);
 }
 
 fn lengths_and_bytes(tally: &mut Tally, random: &mut Random) {
     for bytes in other_lengths(random, [341, 1023]) {
-        expect(tally, &bytes, Err(1));
+        expect(tally, &bytes, Err(Number(1)));
     }
     for format in FORMATS {
         let telegram = random_telegram(random, format);
@@ -40,7 +43,7 @@ fn lengths_and_bytes(tally: &mut Tally, random: &mut Random) {
             for value in [2, 3, 128, 255] {
                 let mut bytes = telegram.clone();
                 bytes[place] = value;
-                expect(tally, &bytes, Err(2));
+                expect(tally, &bytes, Err(Number(2)));
             }
         }
     }
@@ -53,7 +56,7 @@ fn proper(tally: &mut Tally, random: &mut Random) {
     for format in FORMATS {
         for telegram in random_telegrams(random, format, 30) {
             expect(tally, &telegram, Ok(format));
-            expect(tally, &flip(&telegram), Err(8));
+            expect(tally, &flip(&telegram), Err(Number(8)));
         }
     }
 }
@@ -65,7 +68,7 @@ fn changed(tally: &mut Tally, random: &mut Random, format: Format) {
     for place in 0..n {
         let mut one = telegram.clone();
         one[place] ^= 1;
-        expect(tally, &one, Err(6));
+        expect(tally, &one, Err(Number(6)));
         let mut more = one.clone();
         for other in random.places(1 + place % 4, n) {
             more[other] ^= 1;
@@ -82,8 +85,8 @@ fn turned(tally: &mut Tally, random: &mut Random, format: Format) {
     let n = telegram.len();
     for turn in 1..n {
         let bits = turn_left(&telegram, turn);
-        expect(tally, &bits, Err(7));
-        expect(tally, &flip(&bits), Err(7));
+        expect(tally, &bits, Err(Number(7)));
+        expect(tally, &flip(&bits), Err(Number(7)));
     }
     for _ in 0..300 {
         let bits = divided(random, format);
@@ -100,15 +103,16 @@ fn control_and_words(tally: &mut Tally, random: &mut Random, format: Format) {
     let at = format.shaped_bits();
     for control in (0..8).filter(|&control| control != 1) {
         let other = with_bits(&telegram, format, at, &bits_of(control, 3));
-        expect(tally, &other, Err(8));
+        expect(tally, &other, Err(Number(8)));
         let word = other_word(random);
-        expect(tally, &with_word(&other, format, 3, word), Err(8));
+        expect(tally, &with_word(&other, format, 3, word), Err(Number(8)));
     }
     for index in 0..format.blocks() {
         for _ in 0..3 {
             let word = other_word(random);
             let other = with_word(&telegram, format, index, word);
-            expect(tally, &other, Err(9));
+            let kind = wrong(word).unwrap();
+            expect(tally, &other, Err(Word { kind, index }));
         }
     }
     for esb in 0..1024 {
@@ -140,7 +144,7 @@ fn conditions(tally: &mut Tally, random: &mut Random, format: Format) {
 fn one_condition(tally: &mut Tally, random: &mut Random, draw: Draw, number: u8) {
     for _ in 0..20 {
         let telegram = barred(random, Format::Long, draw, number);
-        expect(tally, &telegram, Err(number));
+        expect(tally, &telegram, Err(Number(number)));
     }
 }
 
@@ -150,8 +154,8 @@ fn not_proper(tally: &mut Tally) {
     for telegram in well_formed_not_proper() {
         let format = Format::of_telegram(telegram.len()).unwrap();
         assert!(well_formed(&telegram, format));
-        let number = failing_conditions(&telegram, format).next().unwrap();
-        expect(tally, &telegram, Err(number));
+        let refusal = failing_conditions(&telegram, format).next().unwrap();
+        expect(tally, &telegram, Err(refusal));
     }
 }
 
@@ -172,6 +176,9 @@ fn telegrams() {
     not_proper(&mut tally);
     tally.print("telegrams checked, by number");
     assert_eq!(tally.numbers(), [0, 1, 2, 6, 7, 8, 9, 10, 11, 12]);
+    assert_eq!(tally.kinds(), BTreeSet::from(KINDS));
+    let indices = 0..Format::Long.words();
+    assert_eq!(tally.indices(), BTreeSet::from_iter(indices));
     assert!(tally.total() >= 5_000);
 }
 
@@ -183,7 +190,7 @@ fn refused_by_the_ring_alone(telegram: &[u8], format: Format) {
     assert!(!off_step(telegram, format, Course::Ring));
     assert!(condition_3(telegram, format));
     assert!(condition_4(telegram));
-    assert_eq!(check(telegram), Err(10));
+    assert_eq!(check(telegram), Err(Number(10)));
 }
 
 /// The rows of Appendix B whose first pair on the strip is an earlier one than
@@ -240,7 +247,7 @@ fn telegrams_that_only_the_ring_refuses() {
 fn random_bits() {
     both_formats(72, |format, random| {
         for _ in 0..2_000 {
-            assert_eq!(check(&random.bits(format.telegram_bits())), Err(6));
+            assert_eq!(check(&random.bits(format.telegram_bits())), Err(Number(6)));
         }
     });
 }

@@ -8,7 +8,7 @@ use second::format::Format;
 use second::random::Random;
 use second::read::user_bits_of;
 use second::telegram::{b_of, esb_of};
-use second::{Encoded, Refused};
+use second::{Encoded, Refusal};
 
 /// Encodes a block that has a pair, into outputs of its size and larger.
 fn compare_block(random: &mut Random, block: &[u8]) -> (Encoded, Vec<u8>) {
@@ -86,10 +86,7 @@ fn patterned_blocks() {
 fn a_block_without_a_pair() {
     let mut random = Random::new(64);
     let quick: Encoder = second::encode_skipping;
-    let refused = Refused {
-        number: 4,
-        count: PAIRS,
-    };
+    let refused = Refusal::NoPair { tried: PAIRS };
     assert_eq!(PAIRS, 4_194_304);
     let (answer, _) = encode(&mut random, quick, &block_without_a_pair(), 1040);
     assert_eq!(answer, Err(refused));
@@ -97,7 +94,7 @@ fn a_block_without_a_pair() {
 
 fn refuse(random: &mut Random, block: &[u8], room: usize, number: u8) {
     let (answer, _) = encode(random, second::encode, block, room);
-    assert_eq!(answer, Err(Refused { number, count: 0 }));
+    assert_eq!(answer, Err(Refusal::Number(number)));
 }
 
 #[test]

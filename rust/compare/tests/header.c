@@ -1,24 +1,54 @@
 /* Prints the sizes, and what the six calls answer on 462 zeros and on a capture
- * from standard input, one bit to a byte; the window calls also on all of it. What
- * was read is made again. */
+ * from standard input, one bit to a byte; check and the window calls also on all of
+ * it. What was read is made again, and made with other pairs. */
 #include "balise.h"
 
 #include <stdio.h>
 #include <string.h>
 
+static const char *kind_name(unsigned kind)
+{
+    switch (kind) {
+    case BALISE_KIND_250:
+        return "250";
+    case BALISE_KIND_20:
+        return "20";
+    case BALISE_KIND_OTHER:
+        return "other";
+    default:
+        return "none";
+    }
+}
+
+/* The fields of refusal 9, and the bits that have no field. */
+static void print_not_word(const char *call, uint64_t answer)
+{
+    printf("%s %u kind %s word %u %lu\n", call, BALISE_NUMBER(answer),
+           kind_name(BALISE_WORD_KIND(answer)), BALISE_WORD_INDEX(answer),
+           (unsigned long)((answer >> 8 & 3) | answer >> 32));
+}
+
 /* The fields of a reading, the place, and the bits that have no field. */
 static void print_reading(const char *call, uint64_t answer)
 {
+    if (BALISE_NUMBER(answer) == BALISE_REFUSED_NOT_WORD) {
+        print_not_word(call, answer);
+        return;
+    }
     printf("%s %u %u %u %u %u %u %lu %lu\n", call, BALISE_NUMBER(answer),
            BALISE_FORMAT(answer), BALISE_READ_B(answer), BALISE_READ_TURN(answer),
            BALISE_READ_FLIPPED(answer), BALISE_READ_ESB(answer),
            (unsigned long)BALISE_PLACE(answer), (unsigned long)(answer >> 58));
 }
 
-/* The fields of an answer of make, and the bits that have no field. */
-static void print_make(uint64_t answer)
+/* The fields of an answer of make or check, and the bits that have no field. */
+static void print_format(const char *call, uint64_t answer)
 {
-    printf("make %u %u %lu\n", BALISE_NUMBER(answer), BALISE_FORMAT(answer),
+    if (BALISE_NUMBER(answer) == BALISE_REFUSED_NOT_WORD) {
+        print_not_word(call, answer);
+        return;
+    }
+    printf("%s %u %u %lu\n", call, BALISE_NUMBER(answer), BALISE_FORMAT(answer),
            (unsigned long)(answer >> 9));
 }
 
@@ -41,8 +71,22 @@ static void print_made(const uint8_t *user, uint64_t reading)
     print_bits(user, BALISE_USER_BITS(format));
     answer = balise_make(user, BALISE_USER_BITS(format), BALISE_READ_B(reading),
                          BALISE_READ_ESB(reading), telegram, sizeof telegram);
-    print_make(answer);
+    print_format("make", answer);
     print_bits(telegram, BALISE_TELEGRAM_BITS(format));
+}
+
+/* Prints what the user bits of a reading give with other pairs: B 0, and the first
+ * hundred values of esb. */
+static void print_other_pairs(const uint8_t *user, uint64_t reading)
+{
+    uint8_t telegram[BALISE_TELEGRAM_BITS(BALISE_LONG)];
+    size_t m = BALISE_USER_BITS(BALISE_FORMAT(reading));
+    uint64_t esb;
+
+    print_format("make", balise_make(user, m, 0, 0, telegram, sizeof telegram));
+    for (esb = 0; esb < 100; esb++)
+        print_format("make", balise_make(user, m, BALISE_READ_B(reading), esb, telegram,
+                                         sizeof telegram));
 }
 
 /* Prints what numbers that are too large, and a negative one, give. Returns 1 where
@@ -62,7 +106,7 @@ static int print_too_large(const uint8_t *user, uint64_t reading)
     answers[2] = balise_make(user, m, (uint64_t)negative, esb, telegram, sizeof telegram);
     answers[3] = balise_make(user, m, b, (uint64_t)1 << 32 | esb, telegram, 0);
     for (i = 0; i < 4; i++) {
-        print_make(answers[i]);
+        print_format("make", answers[i]);
         if (BALISE_NUMBER(answers[i]) != BALISE_REFUSED_PAIR_TOO_LARGE)
             return 1;
     }
@@ -96,6 +140,7 @@ int main(void)
             return 1;
 
     length = fread(capture, 1, sizeof capture, stdin);
+    print_format("check", balise_check(capture, length));
     print_reading("read", balise_read(capture, length, user, sizeof user));
     answer = balise_read_well_formed(capture, length, user, sizeof user);
     print_reading("read_well_formed", answer);
@@ -111,6 +156,7 @@ int main(void)
                          sizeof user);
     print_reading("read", answer);
     print_made(user, answer);
+    print_other_pairs(user, answer);
     if (print_too_large(user, answer))
         return 1;
 
@@ -120,10 +166,9 @@ int main(void)
            (unsigned long)BALISE_ENCODED_COUNT(answer));
     print_bits(telegram, BALISE_TELEGRAM_BITS(format));
 
-    answer = balise_check(telegram, BALISE_TELEGRAM_BITS(format));
-    printf("check %u %u\n", BALISE_NUMBER(answer), BALISE_FORMAT(answer));
+    print_format("check", balise_check(telegram, BALISE_TELEGRAM_BITS(format)));
     telegram[0] ^= 1;
     answer = balise_check(telegram, BALISE_TELEGRAM_BITS(format));
-    printf("check %u\n", BALISE_NUMBER(answer));
+    print_format("check", answer);
     return BALISE_NUMBER(answer) != BALISE_REFUSED_NOT_DIVISIBLE;
 }

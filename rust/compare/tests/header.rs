@@ -4,12 +4,14 @@
 use balise::{Format, Found, Reading, Refusal};
 use balise::{CAPTURE_LIMIT, MAX_TELEGRAM_BITS, MAX_USER_BITS};
 use compare::programs::{repository, run, stdout};
-use compare::telegrams::random_telegram;
+use compare::telegrams::{random_telegram, with_word};
 use second::appendices::well_formed_not_proper;
+use second::bad_words::word_of_kind;
 use second::bits::text;
 use second::format::FORMATS;
 use second::random::Random;
 use second::telegram::cut;
+use second::words::KINDS;
 use std::fmt::Write as _;
 use std::path::{Path, PathBuf};
 use std::process::{Command, Stdio};
@@ -42,6 +44,24 @@ fn format_bit(format: Format) -> u8 {
     u8::from(format == Format::Short)
 }
 
+/// The line of a refusal, with what 9 carries or this many fields that are 0.
+/// The bits that have no field are 0.
+fn refusal_line(call: &str, refusal: Refusal, fields: usize) -> String {
+    let number = refusal.number();
+    match refusal {
+        Refusal::NotWord { kind, index } => format!("{call} {number} kind {kind} word {index} 0\n"),
+        _ => format!("{call} {number}{}\n", " 0".repeat(fields)),
+    }
+}
+
+/// The line of an answer of make or check.
+fn format_line(call: &str, answer: Result<Format, Refusal>) -> String {
+    match answer {
+        Ok(format) => format!("{call} 0 {} 0\n", format_bit(format)),
+        Err(refusal) => refusal_line(call, refusal, 2),
+    }
+}
+
 /// The line of a window found at a place. The bits that have no field are 0.
 fn found_line(call: &str, answer: Result<Found, Refusal>) -> String {
     match answer {
@@ -53,7 +73,7 @@ fn found_line(call: &str, answer: Result<Found, Refusal>) -> String {
             u8::from(reading.flipped),
             reading.esb
         ),
-        Err(refusal) => format!("{call} {} 0 0 0 0 0 0 0\n", refusal.number()),
+        Err(refusal) => refusal_line(call, refusal, 7),
     }
 }
 
@@ -69,10 +89,19 @@ fn made_lines(user: &[u8], reading: &Reading) -> String {
     let user = &user[..format.user_bits()];
     let mut telegram = [0; MAX_TELEGRAM_BITS];
     let (b, esb) = (reading.b.into(), reading.esb.into());
-    let made = balise::make(user, b, esb, &mut telegram).expect("a telegram");
-    assert_eq!(made, format);
+    let made = balise::make(user, b, esb, &mut telegram);
+    assert_eq!(made, Ok(format));
     let bits = text(&telegram[..format.telegram_bits()]);
-    format!("{}\nmake 0 {} 0\n{bits}\n", text(user), format_bit(made))
+    format!("{}\n{}{bits}\n", text(user), format_line("make", made))
+}
+
+/// The lines of other pairs with the user bits of a reading.
+fn other_pairs(user: &[u8], reading: &Reading) -> String {
+    let user = &user[..reading.format.user_bits()];
+    let mut telegram = [0; MAX_TELEGRAM_BITS];
+    let with_b = (0..100).map(|esb| (reading.b.into(), esb));
+    let mut line = |(b, esb)| format_line("make", balise::make(user, b, esb, &mut telegram));
+    [(0, 0)].into_iter().chain(with_b).map(&mut line).collect()
 }
 
 fn sizes() -> String {
@@ -95,6 +124,7 @@ fn expected(capture: &[u8]) -> String {
     let zeros = balise::read_well_formed(&[0; 462], &mut user);
     assert_eq!(zeros, Err(Refusal::NoTurn));
     lines += &reading_line("read_well_formed", zeros);
+    lines += &format_line("check", balise::check(capture));
     lines += &reading_line("read", balise::read(capture, &mut user));
     let answer = balise::read_well_formed(capture, &mut user);
     lines += &reading_line("read_well_formed", answer);
@@ -110,6 +140,7 @@ fn expected(capture: &[u8]) -> String {
     assert_eq!(reading, Ok(found.reading));
     lines += &reading_line("read", reading);
     lines += &made_lines(&user, &found.reading);
+    lines += &other_pairs(&user, &found.reading);
     let too_large = Refusal::PairTooLarge.number();
     lines += &format!("make {too_large} 0 0\n").repeat(4);
     let format = found.reading.format;
@@ -124,11 +155,9 @@ fn expected(capture: &[u8]) -> String {
     )
     .unwrap();
     writeln!(lines, "{}", text(&telegram[..n])).unwrap();
-    let bit = format_bit(balise::check(&telegram[..n]).expect("a proper telegram"));
-    writeln!(lines, "check 0 {bit}").unwrap();
+    lines += &format_line("check", balise::check(&telegram[..n]));
     telegram[0] ^= 1;
-    let refusal = balise::check(&telegram[..n]).unwrap_err();
-    writeln!(lines, "check {}", refusal.number()).unwrap();
+    lines += &format_line("check", balise::check(&telegram[..n]));
     lines
 }
 
@@ -145,6 +174,7 @@ fn c_program() {
             let output = written(&program, &capture);
             assert_eq!(output, expected(&capture));
             assert!(output.contains("\ncheck 0 "));
+            assert!(output.contains("\nmake 9 kind 250 word "));
         }
     }
     for telegram in well_formed_not_proper() {
@@ -155,6 +185,23 @@ fn c_program() {
         assert!(output.contains("\nread_well_formed 0 "));
         assert!(output.contains("\nmake 0 "));
         assert!(output.ends_with("\nsearch 13 0 0 0 0 0 0 0\n"));
+    }
+    for format in FORMATS {
+        for kind in KINDS {
+            let index = random.below(format.blocks());
+            let word = word_of_kind(&mut random, kind);
+            let telegram = random_telegram(&mut random, format);
+            let telegram = with_word(&telegram, format, index, word);
+            let window = cut(&telegram, random.below(341), format.window_bits(), true);
+            let line = |call| format!("\n{call} 9 kind {} word {index} 0\n", kind.name());
+            let output = written(&program, &telegram);
+            assert_eq!(output, expected(&telegram));
+            assert!(output.contains(&line("check")));
+            let output = written(&program, &window);
+            assert_eq!(output, expected(&window));
+            assert!(output.contains(&line("read")));
+            assert!(output.contains(&line("read_well_formed")));
+        }
     }
     for capture in [
         vec![],

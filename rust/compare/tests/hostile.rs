@@ -1,17 +1,20 @@
 //! Any bytes to the six calls: 200,000 calls in all, or as many as the variable
-//! BALISE_CALLS says. Every answer and every byte of the outputs and around them
-//! is that of the second program.
+//! BALISE_CALLS says. Every answer, with what a refusal carries, and every byte of
+//! the outputs and around them is that of the second program.
 
 use compare::calls::{check, encode, make, read_both, search, Tally};
 use compare::telegrams::*;
 use compare::{asked, burst, patterns};
 use second::appendices::appendix_b;
+use second::bad_words::{bad_telegrams, BadTelegram};
 use second::bits::all_bits;
 use second::encode_skipping;
 use second::format::{Format, FORMATS};
 use second::random::Random;
 use second::read::user_bits_of;
 use second::telegram::{b_of, cut, esb_of, well_formed};
+use second::words::KINDS;
+use std::collections::BTreeSet;
 
 /// Telegrams of each format besides those of Appendix B.
 const TELEGRAMS: usize = 12;
@@ -34,6 +37,8 @@ struct Inputs {
     telegrams: Vec<Vec<u8>>,
     /// Kept telegrams that are well-formed and not proper.
     not_proper: Vec<Vec<u8>>,
+    /// Telegrams of which some words are not in the table.
+    bad: Vec<BadTelegram>,
 }
 
 impl Inputs {
@@ -44,10 +49,12 @@ impl Inputs {
         for format in FORMATS {
             telegrams.extend(random_telegrams(&mut random, format, TELEGRAMS));
         }
+        let bad = bad_telegrams(&mut random);
         Inputs {
             random,
             telegrams,
             not_proper: kept_not_proper(),
+            bad,
         }
     }
 
@@ -85,10 +92,10 @@ impl Inputs {
     }
 
     /// A telegram, or one with other bits or another word and the check bits
-    /// put right again.
+    /// put right again, or one with bad words.
     fn near_telegram(&mut self) -> (Vec<u8>, Format) {
         let (telegram, format) = self.telegram();
-        let other = match self.random.below(4) {
+        let other = match self.random.below(5) {
             0 => {
                 let count = 1 + self.random.below(22);
                 let bits = self.random.bits(count);
@@ -103,6 +110,10 @@ impl Inputs {
                 // the settings between the shaped data and the check bits
                 let bits = self.random.bits(25);
                 with_bits(&telegram, format, format.shaped_bits(), &bits)
+            }
+            3 => {
+                let bad = &self.bad[self.random.below(self.bad.len())];
+                return (bad.bits.clone(), bad.format);
             }
             _ => telegram,
         };
@@ -225,9 +236,13 @@ impl Inputs {
         }
     }
 
-    /// A block with B and esb: any, those that a telegram is made of, and such
-    /// with damage or another number.
+    /// A block with B and esb: any, those that a telegram is made of, also one
+    /// with a bad word, and such with damage or another number.
     fn block_and_pair(&mut self) -> (Vec<u8>, u64, u64) {
+        let bad = &self.bad[self.random.below(self.bad.len())];
+        if let Some((block, b, esb)) = bad.made_of() {
+            return (block, b.into(), esb.into());
+        }
         let (telegram, format) = self.telegram();
         let mut block = user_bits_of(&telegram, format).expect("user bits");
         let mut b = u64::from(b_of(&telegram, format));
@@ -294,7 +309,7 @@ fn encode_any_bytes() {
         }
         let (buffer, at) = moved(&mut inputs.random, &block);
         let (answer, _) = encode(&mut inputs.random, encode_skipping, &buffer[at..], room);
-        tally.add(answer.map_err(|refused| refused.number));
+        tally.add(answer);
     }
     tally.print("calls of encode, by number");
     assert_eq!(tally.numbers()[..4], [0, 1, 2, 3]);
@@ -314,6 +329,7 @@ fn make_any_bytes() {
     }
     tally.print("calls of make, by number");
     assert_eq!(tally.numbers(), [0, 1, 2, 3, 9, 27]);
+    assert_eq!(tally.kinds(), BTreeSet::from(KINDS));
 }
 
 #[test]
@@ -328,6 +344,7 @@ fn check_any_bytes() {
     }
     tally.print("calls of check, by number");
     assert_eq!(tally.numbers(), [0, 1, 2, 6, 7, 8, 9, 10, 11, 12]);
+    assert_eq!(tally.kinds(), BTreeSet::from(KINDS));
 }
 
 /// Each window goes to both window calls.
@@ -351,6 +368,8 @@ fn read_any_bytes() {
     other_tally.print("calls of read_well_formed, by number");
     assert_eq!(tally.numbers(), [0, 1, 2, 3, 5, 6, 7, 8, 9, 10, 11, 12]);
     assert_eq!(other_tally.numbers(), [0, 1, 2, 3, 5, 6, 7, 8, 9]);
+    assert_eq!(tally.kinds(), BTreeSet::from(KINDS));
+    assert_eq!(tally.words(), other_tally.words());
 }
 
 #[test]

@@ -10,6 +10,9 @@ use second::format::{Format, FORMATS};
 use second::random::Random;
 use second::read::user_bits_of;
 use second::telegram::{b_of, esb_of};
+use second::words::KINDS;
+use second::Refusal;
+use std::collections::BTreeSet;
 
 /// Random blocks of each format, each with a random pair.
 const PAIRS: usize = 30_000;
@@ -54,8 +57,8 @@ fn make_exactly(random: &mut Random, good: &Good, telegram: &[u8]) {
     }
 }
 
-/// Any pair: most give 9. What is made is well-formed, so that check accepts it
-/// or gives 10, 11 or 12.
+/// Any pair: most give 9, with every kind and each of the last ten indices. What
+/// is made is well-formed, so that check accepts it or gives 10, 11 or 12.
 #[test]
 fn random_pairs() {
     both_formats(121, |format, random| {
@@ -79,6 +82,9 @@ fn random_pairs() {
             "{name} telegrams made of them and checked, by number"
         ));
         assert_eq!(made.numbers(), [0, 9]);
+        assert_eq!(made.kinds(), BTreeSet::from(KINDS));
+        let last_ten = format.blocks()..format.words();
+        assert_eq!(made.indices(), BTreeSet::from_iter(last_ten));
         let numbers = checked.numbers();
         assert!(numbers.contains(&0) && numbers.contains(&10));
         assert!(numbers.iter().all(|n| [0, 10, 11, 12].contains(n)));
@@ -147,7 +153,7 @@ fn telegrams_from_their_fields() {
 /// Compares a call that is refused with this number.
 fn refuse(random: &mut Random, call: &Good, room: usize, number: u8) {
     let (answer, _) = make(random, &call.block, call.b, call.esb, room);
-    assert_eq!(answer, Err(number));
+    assert_eq!(answer, Err(Refusal::Number(number)));
 }
 
 /// The numbers that are tested, in the order of the tests.
@@ -229,7 +235,7 @@ fn combinations_of_faults() {
                 let (call, room) = with_faults(&mut random, &good, format, has);
                 let (answer, _) = make(&mut random, &call.block, call.b, call.esb, room);
                 let first = ORDER.into_iter().find(|&number| has(number));
-                assert_eq!(answer.err(), first, "{faults:b}");
+                assert_eq!(answer.err().map(Refusal::number), first, "{faults:b}");
                 tally.add(answer);
             }
         }
@@ -256,7 +262,7 @@ fn numbers_too_large() {
                 (0, 1023),
             ] {
                 let (answer, _) = make(random, &good.block, b, esb, n);
-                assert!(matches!(answer, Ok(_) | Err(9)));
+                assert!(matches!(answer, Ok(_) | Err(Refusal::Word { .. })));
             }
             let u32_max = u64::from(u32::MAX);
             for b in [

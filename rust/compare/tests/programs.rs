@@ -6,10 +6,13 @@ use compare::documents::document;
 use compare::programs::{repository, run, stderr, stdout, Program, PROGRAMS};
 use compare::telegrams::{random_telegram, telegram_of};
 use second::appendices::well_formed_not_proper;
+use second::bad_words::{bad_telegrams, every_word, BadTelegram};
 use second::bits::{of_text, text};
 use second::format::{Format, FORMATS};
 use second::random::Random;
 use second::telegram::cut;
+use second::words::Kind;
+use std::collections::BTreeSet;
 use std::ffi::OsStr;
 use std::fs::File;
 use std::os::unix::ffi::OsStrExt;
@@ -232,15 +235,76 @@ fn windows_that_are_not_proper() {
         let turn = random.below(telegram.len());
         for flipped in [false, true] {
             let window = text(&cut(&telegram, turn, format.window_bits(), flipped));
-            let number = second::check(&telegram).expect_err("a refusal");
+            let refusal = second::check(&telegram).expect_err("a refusal");
             let refused = agreed("read", window.as_bytes());
-            assert!(refused.ends_with(&format!("\nrefused {number}\n")));
+            assert!(refused.ends_with(&format!("\nrefused {}\n", refusal.number())));
             let read = agreed("read-well-formed", window.as_bytes());
             assert_eq!(read.lines().count(), 4);
             assert!(agreed("capture", window.as_bytes()).ends_with("none\n"));
             let capture = format!("{window}\n{accepted}\n");
             assert!(agreed("capture", capture.as_bytes()).contains("\nshort place "));
         }
+    }
+}
+
+/// Telegrams of a format with bad words: for every kind at every index one, with
+/// two later bad words where there is room for them.
+fn with_bad_words(format: Format) -> Vec<BadTelegram> {
+    let mut telegrams = bad_telegrams(&mut Random::new(38));
+    telegrams.retain(|telegram| telegram.format == format);
+    telegrams.reverse();
+    telegrams.sort_by_key(|telegram| telegram.bad[0]);
+    telegrams.dedup_by_key(|telegram| telegram.bad[0]);
+    telegrams
+}
+
+/// The line of refusal 9 (document 02, No. 13).
+fn bad_word_line(telegram: &BadTelegram) -> String {
+    let (index, kind) = telegram.bad[0];
+    let name = match kind {
+        Kind::Group250 => "250",
+        Kind::Group20 => "20",
+        Kind::Other => "other",
+    };
+    format!("refused 9 kind {name} word {index}")
+}
+
+/// What is wrong with which word, by every program that says it, for every kind
+/// at every index; by each window program at one turn and one way up. The search
+/// says none, as ever.
+#[test]
+fn bad_words() {
+    let mut random = Random::new(39);
+    for format in FORMATS {
+        let (n, m, l) = (
+            format.telegram_bits(),
+            format.user_bits(),
+            format.window_bits(),
+        );
+        let (mut named, mut made) = (BTreeSet::new(), BTreeSet::new());
+        for telegram in with_bad_words(format) {
+            let line = bad_word_line(&telegram);
+            let checked = agreed("check", text(&telegram.bits).as_bytes());
+            assert_eq!(checked, format!("balise check 1\nbits {n}\n{line}\n"));
+            for kind in ["read", "read-well-formed"] {
+                let (turn, flipped) = (random.below(n), random.below(2) == 1);
+                let window = cut(&telegram.bits, turn, l, flipped);
+                let read = agreed(kind, text(&window).as_bytes());
+                assert_eq!(read, format!("balise {kind} 1\nbits {l}\n{line}\n"));
+            }
+            named.insert(telegram.bad[0]);
+            if let Some((block, b, esb)) = telegram.made_of() {
+                let pair = [b, esb].map(|number| number.to_string());
+                let pair = [&pair[0][..], &pair[1]];
+                let answer = make(&pair, text(&block).as_bytes()).output;
+                assert_eq!(answer, format!("balise make 1\nbits {m}\n{line}\n"));
+                made.insert(telegram.bad[0]);
+                let window = cut(&telegram.bits, random.below(n), l, false);
+                assert!(agreed("capture", text(&window).as_bytes()).ends_with("none\n"));
+            }
+        }
+        assert_eq!(named, every_word(format, 0));
+        assert_eq!(made, every_word(format, format.blocks()));
     }
 }
 
@@ -366,20 +430,22 @@ fn arguments_that_are_numbers() {
     let third = ["18", "119"].map(OsStr::new);
     let third = [&third[..], &[OsStr::from_bytes(b"\xff")]].concat();
     assert_eq!(agreed_with("make", &third, Stdio::piped, block), answer);
-    for (arguments, number) in [
-        (["119", "18"], 9),
-        (["0", "0"], 9),
-        (["000000000", "000000000"], 9),
-        (["4095", "1023"], 9),
-        (["4096", "119"], 27),
-        (["18", "1024"], 27),
-        (["999999999", "119"], 27),
-        (["18", "999999999"], 27),
-        (["65554", "119"], 27),
-        (["18", "65655"], 27),
+    for (arguments, refused) in [
+        (["119", "18"], "9 kind "),
+        (["0", "0"], "9 kind "),
+        (["000000000", "000000000"], "9 kind "),
+        (["4095", "1023"], "9 kind "),
+        (["4096", "119"], "27\n"),
+        (["18", "1024"], "27\n"),
+        (["999999999", "119"], "27\n"),
+        (["18", "999999999"], "27\n"),
+        (["65554", "119"], "27\n"),
+        (["18", "65655"], "27\n"),
     ] {
-        let refused = format!("balise make 1\nbits 210\nrefused {number}\n");
-        assert_eq!(make(&arguments, block).output, refused);
+        let refused = format!("balise make 1\nbits 210\nrefused {refused}");
+        let answer = make(&arguments, block).output;
+        assert!(answer.starts_with(&refused), "{answer}");
+        assert_eq!(answer.lines().count(), 3);
     }
     // refusal 1 comes before 27
     let refused = "balise make 1\nbits 3\nrefused 1\n";

@@ -11,7 +11,10 @@ use second::format::{Format, FORMATS};
 use second::random::Random;
 use second::read::user_bits_of;
 use second::telegram::{b_of, cut, esb_of, well_formed};
+use second::words::{wrong, KINDS};
 use second::Reading;
+use second::Refusal::{self, Number, Word};
+use std::collections::BTreeSet;
 
 /// Room for the user bits of either format.
 const ROOM: usize = 830;
@@ -24,7 +27,7 @@ struct Tallies {
 }
 
 impl Tallies {
-    fn add(&mut self, [proper, well_formed]: [Result<Reading, u8>; 2]) {
+    fn add(&mut self, [proper, well_formed]: [Result<Reading, Refusal>; 2]) {
         self.proper.add(proper);
         self.well_formed.add(well_formed);
     }
@@ -36,11 +39,22 @@ fn compare(tallies: &mut Tallies, random: &mut Random, window: &[u8]) {
     tallies.add(read_both(random, window, room));
 }
 
-/// Compares a window that both calls refuse with this number.
-fn refuse(tallies: &mut Tallies, random: &mut Random, window: &[u8], room: usize, number: u8) {
+/// Compares a window that both calls refuse so.
+fn refuse_with(
+    tallies: &mut Tallies,
+    random: &mut Random,
+    window: &[u8],
+    room: usize,
+    refusal: Refusal,
+) {
     let answers = read_both(random, window, room);
-    assert_eq!(answers, [Err(number), Err(number)]);
+    assert_eq!(answers, [Err(refusal), Err(refusal)]);
     tallies.add(answers);
+}
+
+/// Compares a window that both calls refuse with this number and no more.
+fn refuse(tallies: &mut Tallies, random: &mut Random, window: &[u8], room: usize, number: u8) {
+    refuse_with(tallies, random, window, room, Number(number));
 }
 
 fn lengths_bytes_and_room(tallies: &mut Tallies, random: &mut Random) {
@@ -160,7 +174,7 @@ fn fifteen_changes(tallies: &mut Tallies, random: &mut Random) {
             window[place + 341 * random.below(2)] ^= 1;
         }
         let answers = read_both(random, &window, 210);
-        assert_ne!(answers[0], Err(5));
+        assert_ne!(answers[0], Err(Number(5)));
         tallies.add(answers);
     }
 }
@@ -229,7 +243,7 @@ fn not_proper(tallies: &mut Tallies, random: &mut Random) {
     for telegram in kept_not_proper() {
         let format = Format::of_telegram(telegram.len()).unwrap();
         let (n, m) = (format.telegram_bits(), format.user_bits());
-        let number = second::check(&telegram).unwrap_err();
+        let refusal = second::check(&telegram).unwrap_err();
         let user = user_bits_of(&telegram, format).unwrap();
         let drawn = random.places(8, n);
         for turn in [0, 1, n - 1].into_iter().chain(drawn) {
@@ -245,7 +259,7 @@ fn not_proper(tallies: &mut Tallies, random: &mut Random) {
                 for room in [m, m + 1 + random.below(40)] {
                     let (refused, _) = read(random, &window, room);
                     let (answer, output) = read_well_formed(random, &window, room);
-                    assert_eq!([&refused, &answer], [&Err(number), &Ok(reading)]);
+                    assert_eq!([&refused, &answer], [&Err(refusal), &Ok(reading)]);
                     assert_eq!(output[..m], user);
                     assert_eq!(make_again(random, &window, &reading, &output), telegram);
                     tallies.add([refused, answer]);
@@ -291,7 +305,8 @@ fn not_proper_and_not_well_formed(tallies: &mut Tallies, random: &mut Random) {
             let (index, word) = (random.below(format.blocks()), other_word(random));
             let other = with_word(&telegram, format, index, word);
             let window = cut(&other, random.below(n), l, index % 2 == 1);
-            refuse(tallies, random, &window, ROOM, 9);
+            let kind = wrong(word).unwrap();
+            refuse_with(tallies, random, &window, ROOM, Word { kind, index });
             both += usize::from(!condition_2(&other, format));
         }
     }
@@ -336,6 +351,11 @@ fn windows() {
     well_formed.print("windows read by read_well_formed, by number");
     assert_eq!(proper.numbers(), [0, 1, 2, 3, 5, 6, 7, 8, 9, 10, 11, 12]);
     assert_eq!(well_formed.numbers(), [0, 1, 2, 3, 5, 6, 7, 8, 9]);
+    for tally in [&proper, &well_formed] {
+        assert_eq!(tally.kinds(), BTreeSet::from(KINDS));
+        let shaped = BTreeSet::from_iter(0..Format::Long.blocks());
+        assert!(tally.indices().is_superset(&shaped));
+    }
     assert_eq!(proper.total(), well_formed.total());
     assert!(proper.total() >= 20_000);
 }

@@ -1,11 +1,11 @@
 //! The names and numbers of the refusals: those of include/balise.h, of the
 //! balise package and of docs/BENCH.md are what the library answers.
 
-use balise::Refusal;
+use balise::{Kind, Refusal};
 use compare::documents::{header_list, header_refusals, meanings};
 use compare::refusals::{provoking, Call};
 use second::random::Random;
-use std::collections::{BTreeMap, BTreeSet};
+use std::collections::{BTreeMap, BTreeSet, HashSet};
 
 /// A refusal's name in the header, from that in Rust: `NotBit` is `NOT_BIT`.
 fn header_name(refusal: Refusal) -> String {
@@ -46,6 +46,21 @@ fn header_and_wrapper_name_what_the_library_answers() {
     }
     let named = Refusal::ALL.map(|refusal| (header_name(refusal), refusal.number()));
     assert_eq!(BTreeMap::from(named), answered);
+}
+
+/// Refusal 9 comes with each kind from each call that gives it.
+#[test]
+fn every_kind_of_a_word() {
+    let mut kinds: BTreeMap<&str, HashSet<Kind>> = BTreeMap::new();
+    for (refusal, call) in provoking(&mut Random::new(97)) {
+        if let Refusal::NotWord { kind, .. } = refusal {
+            assert_eq!(call.refusal(), Some(refusal), "{}", call.name());
+            kinds.entry(call.name()).or_default().insert(kind);
+        }
+    }
+    let calls = ["check", "make", "read", "read_well_formed"];
+    let all = calls.map(|call| (call, HashSet::from(Kind::ALL)));
+    assert_eq!(kinds, all.into());
 }
 
 /// Where read refuses with 10, 11 or 12, the other window call reads.

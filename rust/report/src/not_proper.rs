@@ -4,7 +4,7 @@ use crate::ring;
 use second::appendices::well_formed_not_proper;
 use second::conditions::{failing_conditions, period_distance, thinned_run, THINNED_RUN};
 use second::format::{Format, FORMATS};
-use second::refusal;
+use second::refusal::{self, Refusal};
 use second::telegram::well_formed;
 
 /// What is over a limit, or short of one, in a telegram.
@@ -33,7 +33,7 @@ fn several() -> String {
         .filter_map(|telegram| {
             let format = Format::of_telegram(telegram.len())?;
             let numbers: Vec<String> = failing_conditions(telegram, format)
-                .map(|number| number.to_string())
+                .map(|refusal| refusal.number().to_string())
                 .collect();
             let line = format!("{} {}", format.name(), numbers.join(" "));
             (numbers.len() > 1).then_some(line)
@@ -44,20 +44,21 @@ fn several() -> String {
 
 /// The telegrams of a format that are well-formed and of which only the
 /// condition with this refusal fails.
-fn line(format: Format, number: u8, what: &str, faults: Faults) -> String {
+fn line(format: Format, refusal: Refusal, what: &str, faults: Faults) -> String {
     let mut kept = well_formed_not_proper();
     kept.retain(|telegram| {
         telegram.len() == format.telegram_bits()
             && well_formed(telegram, format)
-            && failing_conditions(telegram, format).eq([number])
+            && failing_conditions(telegram, format).eq([refusal])
     });
     let faults: Vec<String> = kept
         .iter()
         .map(|telegram| faults(telegram, format).join(" and "))
         .collect();
     format!(
-        "{}, refused with {number} alone: {} telegrams; {what}: {}",
+        "{}, refused with {} alone: {} telegrams; {what}: {}",
         format.name(),
+        refusal.number(),
         kept.len(),
         faults.join(", ")
     )

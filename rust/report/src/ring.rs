@@ -6,6 +6,7 @@ use second::conditions::{
     condition_3, condition_4, off_step, off_step_limit, off_step_run, Course,
 };
 use second::format::{Format, FORMATS};
+use second::refusal::OFF_STEP;
 use second::telegram::well_formed;
 
 pub fn lines() -> Vec<String> {
@@ -24,7 +25,7 @@ fn line(format: Format) -> String {
         "{}: {} telegrams, refused with 10: {}, proper on the strip, as document 01 had it: {}; runs over the limit: {}",
         format.name(),
         kept.len(),
-        count(&|t| check(t) == Err(10)),
+        count(&|t| check(t) == Err(OFF_STEP)),
         count(&|t| well_formed(t, format)
             && off_step(t, format, Course::Strip)
             && condition_3(t, format)

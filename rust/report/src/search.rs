@@ -7,6 +7,7 @@ use second::encode::{encode_skipping, first_pair_skipping};
 use second::format::{Format, FORMATS};
 use second::random::Random;
 use second::words::valid;
+use second::Refusal;
 
 /// Blocks drawn for each format.
 const BLOCKS: usize = 101;
@@ -19,6 +20,11 @@ pub fn lines() -> Vec<String> {
         .min();
     let block = block_without_a_pair();
     let refused = encode_skipping(&block, &mut [0; Format::Long.telegram_bits()]).err();
+    let number = refused.map_or(0, Refusal::number);
+    let count = match refused {
+        Some(Refusal::NoPair { tried }) => tried,
+        _ => 0,
+    };
     let strip = first_pair_skipping(&block, Format::Long, Course::Strip);
     let mut lines = vec![
         format!(
@@ -28,9 +34,7 @@ pub fn lines() -> Vec<String> {
         ),
         format!("so a count is never below {}", least.unwrap_or(0)),
         format!(
-            "the long block without a pair: refusal {}, count {}; none on the strip, as document 01 had it: {}",
-            refused.map_or(0, |r| r.number),
-            refused.map_or(0, |r| r.count),
+            "the long block without a pair: refusal {number}, count {count}; none on the strip, as document 01 had it: {}",
             answer(strip.is_none())
         ),
     ];

@@ -4,7 +4,7 @@
 use crate::bits::all_bits;
 use crate::format::FORMATS;
 use crate::read::{read_bits, Asked, Reading};
-use crate::refusal;
+use crate::refusal::{self, Refusal};
 
 /// The longest capture.
 pub const CAPTURE_LIMIT: usize = 7_500;
@@ -18,7 +18,7 @@ pub struct Found {
 }
 
 /// Searches a capture: places from 0 up, long before short at one place.
-pub fn search(capture: &[u8]) -> Result<Found, u8> {
+pub fn search(capture: &[u8]) -> Result<Found, Refusal> {
     if capture.len() > CAPTURE_LIMIT {
         return Err(refusal::LENGTH);
     }

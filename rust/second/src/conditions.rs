@@ -4,7 +4,7 @@
 
 use crate::bits::distance;
 use crate::format::Format;
-use crate::refusal;
+use crate::refusal::{self, Refusal};
 use crate::words::{self, valid, WORD_BITS};
 
 /// How condition 2 counts its runs.
@@ -137,8 +137,8 @@ pub fn condition_4(telegram: &[u8]) -> bool {
 type Condition = fn(&[u8], Format) -> bool;
 
 /// The refusals of those of conditions 2, 3 and 4 that fail, lowest first.
-pub fn failing_conditions(telegram: &[u8], format: Format) -> impl Iterator<Item = u8> + '_ {
-    let conditions: [(u8, Condition); 3] = [
+pub fn failing_conditions(telegram: &[u8], format: Format) -> impl Iterator<Item = Refusal> + '_ {
+    let conditions: [(Refusal, Condition); 3] = [
         (refusal::OFF_STEP, condition_2),
         (refusal::PERIOD, condition_3),
         (refusal::THINNED, |telegram, _| condition_4(telegram)),
@@ -146,5 +146,5 @@ pub fn failing_conditions(telegram: &[u8], format: Format) -> impl Iterator<Item
     conditions
         .into_iter()
         .filter(move |(_, holds)| !holds(telegram, format))
-        .map(|(number, _)| number)
+        .map(|(refusal, _)| refusal)
 }

@@ -4,7 +4,7 @@
 use crate::bits::all_bits;
 use crate::conditions::{condition_3, condition_4, off_step, Course};
 use crate::format::Format;
-use crate::refusal;
+use crate::refusal::{self, Refusal};
 use crate::telegram::{all_words_valid, complete, shaped_data, B_VALUES, CONTROL, ESB_VALUES};
 use crate::{bits::bits_of, words};
 
@@ -17,13 +17,6 @@ pub struct Encoded {
     pub format: Format,
     pub b: u16,
     pub esb: u16,
-    pub count: u32,
-}
-
-/// A refusal's number; the count of pairs tried is 0 except for number 4.
-#[derive(Clone, Copy, Debug, PartialEq, Eq)]
-pub struct Refused {
-    pub number: u8,
     pub count: u32,
 }
 
@@ -85,19 +78,16 @@ fn answer(
     input: &[u8],
     output: &mut [u8],
     search: fn(&[u8], Format, Course) -> Option<Pair>,
-) -> Result<Encoded, Refused> {
-    let refused = |number| Refused { number, count: 0 };
-    let format = Format::of_block(input.len()).ok_or(refused(refusal::LENGTH))?;
+) -> Result<Encoded, Refusal> {
+    let format = Format::of_block(input.len()).ok_or(refusal::LENGTH)?;
     if !all_bits(input) {
-        return Err(refused(refusal::NOT_A_BIT));
+        return Err(refusal::NOT_A_BIT);
     }
     if output.len() < format.telegram_bits() {
-        return Err(refused(refusal::OUTPUT));
+        return Err(refusal::OUTPUT);
     }
-    let pair = search(input, format, Course::Ring).ok_or(Refused {
-        number: refusal::NO_PAIR,
-        count: PAIRS,
-    })?;
+    let none = Refusal::NoPair { tried: PAIRS };
+    let pair = search(input, format, Course::Ring).ok_or(none)?;
     output[..format.telegram_bits()].copy_from_slice(&pair.telegram);
     Ok(Encoded {
         format,
@@ -108,11 +98,11 @@ fn answer(
 }
 
 /// Encodes a block: the first proper pair's telegram into the output.
-pub fn encode(input: &[u8], output: &mut [u8]) -> Result<Encoded, Refused> {
+pub fn encode(input: &[u8], output: &mut [u8]) -> Result<Encoded, Refusal> {
     answer(input, output, first_pair)
 }
 
 /// What `encode` does, sooner.
-pub fn encode_skipping(input: &[u8], output: &mut [u8]) -> Result<Encoded, Refused> {
+pub fn encode_skipping(input: &[u8], output: &mut [u8]) -> Result<Encoded, Refusal> {
     answer(input, output, first_pair_skipping)
 }

@@ -1,9 +1,10 @@
-//! The second program: document 01, as document 02, No. 5, No. 2 and No. 11,
-//! amends it, written down once more, plainly, so that the main program can be
-//! compared with it.
+//! The second program: document 01, as document 02, No. 5, No. 2, No. 11 and
+//! No. 13, amends it, written down once more, plainly, so that the main program
+//! can be compared with it.
 //! Bits are held one to a byte, 0 or 1, earliest sent first.
 
 pub mod appendices;
+pub mod bad_words;
 pub mod bits;
 pub mod capture;
 pub mod check;
@@ -23,7 +24,9 @@ pub mod words;
 
 pub use capture::{search, stretch, Found, CAPTURE_LIMIT};
 pub use check::check;
-pub use encode::{encode, encode_skipping, Encoded, Refused};
+pub use encode::{encode, encode_skipping, Encoded};
 pub use format::Format;
 pub use make::make;
 pub use read::{read, read_well_formed, Reading};
+pub use refusal::Refusal;
+pub use words::Kind;

@@ -1,12 +1,15 @@
 //! The second program on standard input: `second encode`, `check`, `read`,
 //! `read-well-formed`, `capture`, or `make B ESB`. It reads characters 0 and 1,
 //! skipping bytes 10 and 13, and writes what the main programs write (document
-//! 01, the capture program; document 02, No. 11); of a bad text, or an argument
-//! of `make` that is no number, a line on standard error says what is wrong.
+//! 01, the capture program; document 02, No. 11 and No. 13); of a bad text, or an
+//! argument of `make` that is no number, a line on standard error says what is
+//! wrong.
 
 use second::bits::{first_fault, of_text, text, Fault};
 use second::format::Format;
-use second::{check, encode, make, read, read_well_formed, search, Reading, CAPTURE_LIMIT};
+use second::{
+    check, encode, make, read, read_well_formed, search, Reading, Refusal, CAPTURE_LIMIT,
+};
 use std::ffi::OsString;
 use std::io::{self, Read, Write};
 use std::{env, process};
@@ -84,8 +87,7 @@ fn encoded(block: &[u8]) -> String {
             e.count,
             text(&output[..e.format.telegram_bits()])
         ),
-        Err(r) if r.count > 0 => format!("refused {} tried {}\n", r.number, r.count),
-        Err(r) => format!("refused {}\n", r.number),
+        Err(refusal) => format!("{refusal}\n"),
     }
 }
 
@@ -97,14 +99,14 @@ fn made(block: &[u8], b: u64, esb: u64) -> String {
             format.name(),
             text(&output[..format.telegram_bits()])
         ),
-        Err(number) => format!("refused {number}\n"),
+        Err(refusal) => format!("{refusal}\n"),
     }
 }
 
 fn checked(telegram: &[u8]) -> String {
     match check(telegram) {
         Ok(format) => format!("{} proper\n", format.name()),
-        Err(number) => format!("refused {number}\n"),
+        Err(refusal) => format!("{refusal}\n"),
     }
 }
 
@@ -130,7 +132,7 @@ fn well_formed_read(window: &[u8]) -> String {
 }
 
 /// The lines of a window that one of the two calls reads.
-fn what_was_read(window: &[u8], read: fn(&[u8], &mut [u8]) -> Result<Reading, u8>) -> String {
+fn what_was_read(window: &[u8], read: fn(&[u8], &mut [u8]) -> Result<Reading, Refusal>) -> String {
     let mut output = [0; Format::Long.user_bits()];
     match read(window, &mut output) {
         Ok(r) => format!(
@@ -139,7 +141,7 @@ fn what_was_read(window: &[u8], read: fn(&[u8], &mut [u8]) -> Result<Reading, u8
             facts(&r),
             text(&output[..r.format.user_bits()])
         ),
-        Err(number) => format!("refused {number}\n"),
+        Err(refusal) => format!("{refusal}\n"),
     }
 }
 

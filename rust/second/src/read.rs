@@ -1,14 +1,13 @@
 //! Reading a window (document 01, "Search, reading and place"; document 02,
-//! No. 2 and, for the extra shaping bits, No. 11).
+//! No. 2; for the extra shaping bits, No. 11; what is said of a word, No. 13).
 
 use crate::bits::{all_bits, bits_of, flip, turn_right};
 use crate::conditions::failing_conditions;
 use crate::cyclic::{remainder_by_f, remainder_by_g, turn_of_remainder};
 use crate::format::Format;
-use crate::refusal;
+use crate::refusal::{self, Refusal};
 use crate::scrambling::{descramble, restore_first};
-use crate::telegram::{b_of, control, esb_of, CONTROL};
-use crate::words::{self, WORD_BITS};
+use crate::telegram::{b_of, control, esb_of, word_numbers, CONTROL};
 
 /// What a window says besides the user bits.
 #[derive(Clone, Copy, Debug, PartialEq, Eq)]
@@ -30,20 +29,20 @@ pub enum Asked {
 }
 
 /// Reads a window of a proper telegram and writes its user bits, or gives the
-/// lowest number of a refusal that applies.
-pub fn read(window: &[u8], output: &mut [u8]) -> Result<Reading, u8> {
+/// refusal with the lowest number that applies.
+pub fn read(window: &[u8], output: &mut [u8]) -> Result<Reading, Refusal> {
     answer(window, output, Asked::Proper)
 }
 
 /// Reads a window of a well-formed telegram, proper or not (document 02, No. 2:
 /// the call for museum boxes).
-pub fn read_well_formed(window: &[u8], output: &mut [u8]) -> Result<Reading, u8> {
+pub fn read_well_formed(window: &[u8], output: &mut [u8]) -> Result<Reading, Refusal> {
     answer(window, output, Asked::WellFormed)
 }
 
 /// The refusals before the bits are looked at, lowest number first, then the
 /// reading.
-fn answer(window: &[u8], output: &mut [u8], asked: Asked) -> Result<Reading, u8> {
+fn answer(window: &[u8], output: &mut [u8], asked: Asked) -> Result<Reading, Refusal> {
     let format = Format::of_window(window.len()).ok_or(refusal::LENGTH)?;
     if !all_bits(window) {
         return Err(refusal::NOT_A_BIT);
@@ -58,7 +57,11 @@ fn answer(window: &[u8], output: &mut [u8], asked: Asked) -> Result<Reading, u8>
 
 /// Reads a window of a format's n+r bits, each 0 or 1: refusals 5 to 9, and
 /// then 10 to 12 where a proper telegram is asked for.
-pub fn read_bits(window: &[u8], format: Format, asked: Asked) -> Result<(Reading, Vec<u8>), u8> {
+pub fn read_bits(
+    window: &[u8],
+    format: Format,
+    asked: Asked,
+) -> Result<(Reading, Vec<u8>), Refusal> {
     let (turned, extra) = window.split_at(format.telegram_bits());
     if extra != &window[..format.extra_bits()] {
         return Err(refusal::ENDS);
@@ -78,8 +81,8 @@ pub fn read_bits(window: &[u8], format: Format, asked: Asked) -> Result<(Reading
     }
     let user = user_bits_of(&telegram, format)?;
     if asked == Asked::Proper {
-        if let Some(number) = failing_conditions(&telegram, format).next() {
-            return Err(number);
+        if let Some(refusal) = failing_conditions(&telegram, format).next() {
+            return Err(refusal);
         }
     }
     let reading = Reading {
@@ -93,7 +96,7 @@ pub fn read_bits(window: &[u8], format: Format, asked: Asked) -> Result<(Reading
 }
 
 /// The user bits that a telegram carries, or refusal 9.
-pub fn user_bits_of(telegram: &[u8], format: Format) -> Result<Vec<u8>, u8> {
+pub fn user_bits_of(telegram: &[u8], format: Format) -> Result<Vec<u8>, Refusal> {
     let replaced = descramble(
         &scrambled_bits_of(telegram, format)?,
         b_of(telegram, format),
@@ -103,12 +106,10 @@ pub fn user_bits_of(telegram: &[u8], format: Format) -> Result<Vec<u8>, u8> {
 
 /// The scrambled bits of a telegram, or refusal 9. All words are looked up,
 /// the last ten too.
-pub fn scrambled_bits_of(telegram: &[u8], format: Format) -> Result<Vec<u8>, u8> {
-    let mut scrambled = Vec::with_capacity(10 * format.words());
-    for word in telegram.chunks(WORD_BITS) {
-        let number = words::number(words::of_bits(word)).ok_or(refusal::WORD)?;
-        scrambled.extend(bits_of(number.into(), 10));
-    }
-    scrambled.truncate(format.user_bits());
-    Ok(scrambled)
+pub fn scrambled_bits_of(telegram: &[u8], format: Format) -> Result<Vec<u8>, Refusal> {
+    let numbers = word_numbers(telegram)?;
+    Ok(numbers[..format.blocks()]
+        .iter()
+        .flat_map(|&number| bits_of(number.into(), 10))
+        .collect())
 }

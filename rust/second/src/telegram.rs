@@ -4,6 +4,7 @@
 use crate::bits::{bits_of, flip, number_of};
 use crate::cyclic::check_bits;
 use crate::format::{Format, CHECK_BITS};
+use crate::refusal::Refusal;
 use crate::scrambling::{replace_first, scramble};
 use crate::words::{self, valid, WORD_BITS};
 
@@ -57,6 +58,19 @@ pub fn b_of(telegram: &[u8], format: Format) -> u16 {
 pub fn esb_of(telegram: &[u8], format: Format) -> u16 {
     let at = format.shaped_bits() + 15;
     number_of(&telegram[at..at + 10]) as u16
+}
+
+/// The numbers of all words of a telegram, the last ten too, or refusal 9 with
+/// the first that is not in the table.
+pub fn word_numbers(telegram: &[u8]) -> Result<Vec<u16>, Refusal> {
+    let mut numbers = Vec::new();
+    for (index, bits) in telegram.chunks_exact(WORD_BITS).enumerate() {
+        match words::look_up(words::of_bits(bits)) {
+            Ok(number) => numbers.push(number),
+            Err(kind) => return Err(Refusal::Word { kind, index }),
+        }
+    }
+    Ok(numbers)
 }
 
 /// Are all words of these bits, cut from their front, in the table?

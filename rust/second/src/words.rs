@@ -1,5 +1,6 @@
 //! The table from ten bits to eleven (document 01, "Words"; document 000,
-//! Appendix A).
+//! Appendix A), and what is wrong with a word that it does not have (document
+//! 02, No. 13).
 
 use std::sync::LazyLock;
 
@@ -16,9 +17,34 @@ static TABLE: LazyLock<Vec<u16>> = LazyLock::new(|| {
         .collect()
 });
 
-/// Which of the 2,048 words are in the table, filled by walking it.
-static VALID: LazyLock<Vec<bool>> =
-    LazyLock::new(|| (0..2048).map(|word| number(word).is_some()).collect());
+/// What is wrong with a word that is not in the table.
+#[derive(Clone, Copy, Debug, PartialEq, Eq, PartialOrd, Ord)]
+pub enum Kind {
+    /// It is in the group of 250.
+    Group250,
+    /// It is in the group of 20.
+    Group20,
+    /// It is in neither, and simply not in the table.
+    Other,
+}
+
+/// The three kinds.
+pub const KINDS: [Kind; 3] = [Kind::Group250, Kind::Group20, Kind::Other];
+
+impl Kind {
+    /// The name in the programs' output.
+    pub const fn name(self) -> &'static str {
+        match self {
+            Kind::Group250 => "250",
+            Kind::Group20 => "20",
+            Kind::Other => "other",
+        }
+    }
+}
+
+/// What is wrong with each of the 2,048 words, filled by looking each up.
+static WRONG: LazyLock<Vec<Option<Kind>>> =
+    LazyLock::new(|| (0..2048).map(|word| look_up(word).err()).collect());
 
 /// The whole table.
 pub fn table() -> &'static [u16] {
@@ -30,19 +56,37 @@ pub fn word(i: u16) -> u16 {
     TABLE[usize::from(i)]
 }
 
-/// The number of a word, found by walking the table from the front.
-pub fn number(word: u16) -> Option<u16> {
+/// The number of a word, found by walking the table from the front, or what is
+/// wrong with it. What has more than eleven bits is in no group.
+pub fn look_up(word: u16) -> Result<u16, Kind> {
     for (i, &entry) in TABLE.iter().enumerate() {
         if entry == word {
-            return Some(i as u16);
+            return Ok(i as u16);
         }
     }
-    None
+    let eleven_bits = word < 1 << WORD_BITS;
+    if eleven_bits && in_group_250(word) {
+        Err(Kind::Group250)
+    } else if eleven_bits && in_group_20(word) {
+        Err(Kind::Group20)
+    } else {
+        Err(Kind::Other)
+    }
+}
+
+/// The number of a word, if it has one.
+pub fn number(word: u16) -> Option<u16> {
+    look_up(word).ok()
+}
+
+/// What is wrong with an eleven-bit word, if anything is.
+pub fn wrong(word: u16) -> Option<Kind> {
+    WRONG[usize::from(word)]
 }
 
 /// Is an eleven-bit word in the table?
 pub fn valid(word: u16) -> bool {
-    VALID[usize::from(word)]
+    wrong(word).is_none()
 }
 
 /// A word with its eleven bits flipped.

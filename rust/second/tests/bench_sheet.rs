@@ -6,6 +6,7 @@ use second::cyclic::remainder_by_f;
 use second::format::{Format, FORMATS};
 use second::scrambling::{replace_first, restore_first, scramble, scramble_by_top_bit, start};
 use second::words::{number, word};
+use second::Refusal::{self, Number};
 use second::{encode, read, read_well_formed, search};
 
 /// A list of zeros with its first bit 1.
@@ -65,7 +66,7 @@ fn w8_w9_remainders() {
 }
 
 /// The refusal of both window calls, whose output is kept.
-fn refused(window: &[u8], room: usize) -> u8 {
+fn refused(window: &[u8], room: usize) -> Refusal {
     let mut output = vec![9; room];
     let refused = read(window, &mut output).unwrap_err();
     assert_eq!(read_well_formed(window, &mut output), Err(refused));
@@ -75,22 +76,22 @@ fn refused(window: &[u8], room: usize) -> u8 {
 
 #[test]
 fn w10_w11_w12_windows() {
-    assert_eq!(refused(&[0; 462], 830), 7);
+    assert_eq!(refused(&[0; 462], 830), Number(7));
     let mut window = [0; 462];
     window[461] = 1;
-    assert_eq!(refused(&window, 830), 5);
-    assert_eq!(refused(&[0; 461], 830), 1);
+    assert_eq!(refused(&window, 830), Number(5));
+    assert_eq!(refused(&[0; 461], 830), Number(1));
 }
 
 #[test]
 fn also_windows() {
-    assert_eq!(refused(&[0; 463], 830), 1);
-    assert_eq!(refused(&[], 830), 1);
-    assert_eq!(refused(&[0; 1100], 830), 7);
+    assert_eq!(refused(&[0; 463], 830), Number(1));
+    assert_eq!(refused(&[], 830), Number(1));
+    assert_eq!(refused(&[0; 1100], 830), Number(7));
     for length in [462, 1100] {
         let mut window = vec![0; length];
         window[length / 2] = 2;
-        assert_eq!(refused(&window, 209), 2);
+        assert_eq!(refused(&window, 209), Number(2));
     }
 }
 
@@ -98,25 +99,22 @@ fn also_windows() {
 fn also_blocks() {
     let mut output = [9; 340];
     for length in [0, 209, 211, 829, 831] {
-        let refused = encode(&vec![2; length], &mut output).unwrap_err();
-        assert_eq!((refused.number, refused.count), (1, 0));
+        assert_eq!(encode(&vec![2; length], &mut output), Err(Number(1)));
     }
     for length in [210, 830] {
         let mut block = vec![0; length];
-        let refused = encode(&block, &mut output).unwrap_err();
-        assert_eq!((refused.number, refused.count), (3, 0));
+        assert_eq!(encode(&block, &mut output), Err(Number(3)));
         block[length - 1] = 2;
-        let refused = encode(&block, &mut output).unwrap_err();
-        assert_eq!((refused.number, refused.count), (2, 0));
+        assert_eq!(encode(&block, &mut output), Err(Number(2)));
     }
     assert_eq!(output, [9; 340]);
 }
 
 #[test]
 fn also_captures() {
-    assert_eq!(search(&[]), Err(13));
-    assert_eq!(search(&vec![0; 7_500]), Err(13));
-    assert_eq!(search(&vec![0; 7_501]), Err(1));
-    assert_eq!(search(&vec![2; 7_501]), Err(1));
-    assert_eq!(search(&vec![2; 7_500]), Err(2));
+    assert_eq!(search(&[]), Err(Number(13)));
+    assert_eq!(search(&vec![0; 7_500]), Err(Number(13)));
+    assert_eq!(search(&vec![0; 7_501]), Err(Number(1)));
+    assert_eq!(search(&vec![2; 7_501]), Err(Number(1)));
+    assert_eq!(search(&vec![2; 7_500]), Err(Number(2)));
 }

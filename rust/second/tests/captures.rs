@@ -5,6 +5,7 @@ use second::format::{Format, FORMATS};
 use second::made::telegram_of;
 use second::random::Random;
 use second::telegram::cut;
+use second::Refusal::Number;
 use second::{check, read, read_well_formed, search, stretch, CAPTURE_LIMIT};
 
 #[test]
@@ -31,7 +32,7 @@ fn first_place() {
             assert_eq!(part.as_ptr(), capture[noise..].as_ptr());
             assert_eq!(part.len(), format.window_bits());
             let cut_short = &capture[..noise + format.window_bits() - 1];
-            assert_eq!(search(cut_short), Err(13));
+            assert_eq!(search(cut_short), Err(Number(13)));
             assert!(stretch(cut_short).is_empty());
         }
     }
@@ -62,8 +63,8 @@ fn earlier_place() {
 #[test]
 fn noise() {
     let mut random = Random::new(21);
-    assert_eq!(search(&random.bits(CAPTURE_LIMIT)), Err(13));
-    assert_eq!(search(&random.bits(461)), Err(13));
+    assert_eq!(search(&random.bits(CAPTURE_LIMIT)), Err(Number(13)));
+    assert_eq!(search(&random.bits(461)), Err(Number(13)));
     assert!(stretch(&random.bits(CAPTURE_LIMIT + 1)).is_empty());
     assert!(stretch(&[2; 500]).is_empty());
 }
@@ -75,11 +76,11 @@ fn not_proper() {
     for telegram in well_formed_not_proper() {
         let format = Format::of_telegram(telegram.len()).unwrap();
         let window = cut(&telegram, 21, format.window_bits(), true);
-        assert_eq!(search(&window), Err(13));
+        assert_eq!(search(&window), Err(Number(13)));
         assert!(stretch(&window).is_empty());
         let mut output = [9; 830];
-        let number = check(&telegram).unwrap_err();
-        assert_eq!(read(&window, &mut output), Err(number));
+        let refusal = check(&telegram).unwrap_err();
+        assert_eq!(read(&window, &mut output), Err(refusal));
         assert!(read_well_formed(&window, &mut output).is_ok());
     }
 }

@@ -1,15 +1,18 @@
-//! Making a telegram of a block, B and esb (document 02, No. 11).
+//! Making a telegram of a block, B and esb (document 02, No. 11). What is said of
+//! a word that is not in the table is in bad_words.rs too.
 
 use second::appendices::{appendix_b, only_the_ring_refuses, well_formed_not_proper};
+use second::bad_words::bad_words;
 use second::format::{Format, FORMATS};
 use second::made::encoded;
 use second::random::Random;
 use second::read::user_bits_of;
 use second::telegram::{self, b_of, cut, esb_of, well_formed};
+use second::Refusal::{self, Number, Word};
 use second::{check, make, read, read_well_formed, search};
 
 /// The answer, and the whole output, which held nines.
-fn lent(block: &[u8], b: u64, esb: u64, room: usize) -> (Result<Format, u8>, Vec<u8>) {
+fn lent(block: &[u8], b: u64, esb: u64, room: usize) -> (Result<Format, Refusal>, Vec<u8>) {
     let mut output = vec![9; room];
     let answer = make(block, b, esb, &mut output);
     (answer, output)
@@ -90,7 +93,8 @@ fn from_a_reading() {
 }
 
 /// Any pair: what is made is well-formed, and where there is none a word is not
-/// in the table. What is made may be proper or not.
+/// in the table, and the first such word is named. What is made may be proper or
+/// not.
 #[test]
 fn random_pairs() {
     let mut random = Random::new(132);
@@ -103,11 +107,13 @@ fn random_pairs() {
             let formed = telegram::make(&user, b, esb, format);
             let number = if well_formed(&formed, format) {
                 assert_eq!((answer, &output), (Ok(format), &formed));
-                check(&output).err().unwrap_or(0)
+                check(&output).err().map_or(0, Refusal::number)
             } else {
-                assert_eq!(answer, Err(9));
+                let (index, kind) = bad_words(&formed)[0];
+                assert!(index >= format.blocks());
+                assert_eq!(answer, Err(Word { kind, index }));
                 assert!(output.iter().all(|&byte| byte == 9));
-                assert_eq!(check(&formed), Err(9));
+                assert_eq!(check(&formed), answer);
                 9
             };
             seen[usize::from(number)] += 1;
@@ -156,7 +162,7 @@ fn the_order_of_the_refusals() {
             }
             let (answer, output) = lent(&block, b, esb, if applies(3) { n - 1 } else { n });
             let first = ORDER.into_iter().find(|&number| applies(number));
-            assert_eq!(answer, first.map_or(Ok(format), Err), "{faults:b}");
+            assert_eq!(answer.err().map(Refusal::number), first, "{faults:b}");
             assert!(answer.is_ok() || output.iter().all(|&byte| byte == 9));
         }
     }
@@ -172,24 +178,24 @@ fn numbers_too_large() {
         let pair = encoded(&user).0;
         let (b, esb) = (u64::from(pair.b), u64::from(pair.esb));
         assert_eq!(lent(&user, b, esb, n).0, Ok(format));
-        assert_ne!(lent(&user, 4095, esb, n).0, Err(27));
-        assert_ne!(lent(&user, b, 1023, n).0, Err(27));
+        assert_ne!(lent(&user, 4095, esb, n).0, Err(Number(27)));
+        assert_ne!(lent(&user, b, 1023, n).0, Err(Number(27)));
         for large in [4096, u64::from(u32::MAX), 1 << 63, u64::MAX] {
-            assert_eq!(lent(&user, large, esb, n).0, Err(27));
-            assert_eq!(lent(&user, b, large, n).0, Err(27));
+            assert_eq!(lent(&user, large, esb, n).0, Err(Number(27)));
+            assert_eq!(lent(&user, b, large, n).0, Err(Number(27)));
         }
-        assert_eq!(lent(&user, b, 1024, n).0, Err(27));
+        assert_eq!(lent(&user, b, 1024, n).0, Err(Number(27)));
         for shift in 12..64 {
-            assert_eq!(lent(&user, b | 1 << shift, esb, n).0, Err(27));
-            assert_eq!(lent(&user, b, esb | 1 << (shift - 2), n).0, Err(27));
+            assert_eq!(lent(&user, b | 1 << shift, esb, n).0, Err(Number(27)));
+            assert_eq!(lent(&user, b, esb | 1 << (shift - 2), n).0, Err(Number(27)));
         }
-        assert_eq!(lent(&user, b, esb | 1 << 63, n).0, Err(27));
+        assert_eq!(lent(&user, b, esb | 1 << 63, n).0, Err(Number(27)));
     }
 }
 
 #[test]
 fn lengths() {
     for length in [0, 1, 209, 211, 829, 831, 1023] {
-        assert_eq!(lent(&vec![2; length], 4096, 0, 0).0, Err(1));
+        assert_eq!(lent(&vec![2; length], 4096, 0, 0).0, Err(Number(1)));
     }
 }

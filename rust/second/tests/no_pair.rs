@@ -4,12 +4,9 @@ use second::appendices::block_without_a_pair;
 use second::conditions::Course;
 use second::encode::{first_pair_skipping, PAIRS};
 use second::format::Format;
-use second::{encode, encode_skipping, Refused};
+use second::{encode, encode_skipping, Refusal};
 
-const NO_PAIR: Refused = Refused {
-    number: 4,
-    count: PAIRS,
-};
+const NO_PAIR: Refusal = Refusal::NoPair { tried: PAIRS };
 
 #[test]
 fn skipping() {
@@ -18,6 +15,7 @@ fn skipping() {
     assert_eq!(encode_skipping(&block, &mut output), Err(NO_PAIR));
     assert_eq!(output, [9; 1030]);
     assert_eq!(PAIRS, 4096 * 1024);
+    assert_eq!(NO_PAIR.to_string(), "refused 4 tried 4194304");
 }
 
 /// Nor is there a pair on the strip, as document 01 had it.

@@ -10,6 +10,7 @@ use second::format::{Format, FORMATS};
 use second::read::{read_bits, user_bits_of, Asked};
 use second::rings::other_steps_hold;
 use second::telegram::{b_of, cut, esb_of, well_formed};
+use second::Refusal::Number;
 use second::{check, Reading};
 
 /// The telegrams of a format of which just the conditions with these refusals
@@ -18,7 +19,8 @@ fn kept(format: Format, numbers: &[u8]) -> Vec<Vec<u8>> {
     let mut telegrams = well_formed_not_proper();
     telegrams.retain(|telegram| {
         let failing = failing_conditions(telegram, format);
-        telegram.len() == format.telegram_bits() && failing.eq(numbers.iter().copied())
+        let numbers = numbers.iter().copied().map(Number);
+        telegram.len() == format.telegram_bits() && failing.eq(numbers)
     });
     telegrams
 }
@@ -30,11 +32,11 @@ fn well_formed_and_not_proper() {
     for telegram in kept.iter().chain(&ring) {
         let format = Format::of_telegram(telegram.len()).unwrap();
         assert!(well_formed(telegram, format));
-        assert!(matches!(check(telegram), Err(10..=12)));
+        assert!(matches!(check(telegram), Err(Number(10..=12))));
     }
     for telegram in &ring {
         let format = Format::of_telegram(telegram.len()).unwrap();
-        assert!(failing_conditions(telegram, format).eq([10]));
+        assert!(failing_conditions(telegram, format).eq([Number(10)]));
     }
 }
 
@@ -51,7 +53,7 @@ fn several_conditions() {
         let kept = kept(format, numbers);
         assert_eq!(kept.len(), 2);
         for telegram in kept {
-            assert_eq!(check(&telegram), Err(numbers[0]));
+            assert_eq!(check(&telegram), Err(Number(numbers[0])));
         }
     }
 }
@@ -63,7 +65,7 @@ fn windows() {
         .chain(&only_the_ring_refuses())
     {
         let format = Format::of_telegram(telegram.len()).unwrap();
-        let number = check(telegram).unwrap_err();
+        let refusal = check(telegram).unwrap_err();
         let user = user_bits_of(telegram, format).unwrap();
         for turn in (0..telegram.len()).step_by(31) {
             for flipped in [false, true] {
@@ -76,7 +78,7 @@ fn windows() {
                     esb: esb_of(telegram, format),
                 };
                 let proper = read_bits(&window, format, Asked::Proper);
-                assert_eq!(proper, Err(number));
+                assert_eq!(proper, Err(refusal));
                 let well_formed = read_bits(&window, format, Asked::WellFormed);
                 assert_eq!(well_formed, Ok((reading, user.clone())));
             }

@@ -4,9 +4,12 @@ use std::io::Write;
 use std::process::{Command, Stdio};
 
 use second::appendices::well_formed_not_proper;
+use second::bad_words::bad_telegrams;
 use second::bits::text;
+use second::random::Random;
 use second::read::user_bits_of;
 use second::telegram::{b_of, cut, esb_of};
+use second::words::{Kind, KINDS};
 use second::{check, encode_skipping, Format};
 
 /// What the program writes to standard output and to standard error. The words
@@ -81,7 +84,6 @@ fn refused() {
         ("make 4096 5", 27),
         ("make 18 1024", 27),
         ("make 999999999 999999999", 27),
-        ("make 18 5", 9),
     ] {
         assert_eq!(
             run(words, &"0".repeat(210)),
@@ -94,6 +96,52 @@ fn refused() {
             format!("balise {kind} 1\nbits 462\nrefused 7\n")
         );
     }
+}
+
+/// What is wrong with which word (document 02, No. 13): the third line of check,
+/// of both window calls whatever the turn and the way up, and of make, for every
+/// kind and at every index that is tried. The search finds nothing, as ever.
+#[test]
+fn bad_words() {
+    let mut seen = [0; KINDS.len()];
+    for telegram in bad_telegrams(&mut Random::new(150)).iter().step_by(23) {
+        let (index, kind) = telegram.bad[0];
+        let name = match kind {
+            Kind::Group250 => "250",
+            Kind::Group20 => "20",
+            Kind::Other => "other",
+        };
+        let refused = |bits: usize| format!("bits {bits}\nrefused 9 kind {name} word {index}\n");
+        let (bits, n) = (&telegram.bits, telegram.bits.len());
+        assert_eq!(
+            run("check", &text(bits)),
+            format!("balise check 1\n{}", refused(n))
+        );
+        let window = cut(
+            bits,
+            17 * index + 5,
+            telegram.format.window_bits(),
+            index % 2 == 0,
+        );
+        for kind in ["read", "read-well-formed"] {
+            assert_eq!(
+                run(kind, &text(&window)),
+                format!("balise {kind} 1\n{}", refused(window.len()))
+            );
+        }
+        assert_eq!(
+            run("capture", &text(&window)),
+            format!("balise capture 1\nbits {}\nnone\n", window.len())
+        );
+        if let Some((block, b, esb)) = telegram.made_of() {
+            assert_eq!(
+                run(&format!("make {b} {esb}"), &text(&block)),
+                format!("balise make 1\n{}", refused(block.len()))
+            );
+            seen[kind as usize] += 1;
+        }
+    }
+    assert!(seen.iter().all(|&count| count > 0));
 }
 
 #[test]
@@ -145,14 +193,14 @@ fn accepted() {
 fn not_proper() {
     for telegram in well_formed_not_proper() {
         let format = Format::of_telegram(telegram.len()).unwrap();
-        let number = check(&telegram).unwrap_err();
+        let refusal = check(&telegram).unwrap_err();
         let (b, esb) = (b_of(&telegram, format), esb_of(&telegram, format));
         let user = text(&user_bits_of(&telegram, format).unwrap());
         let window = cut(&telegram, 7, format.window_bits(), false);
         let (bits, window) = (window.len(), text(&window));
         assert_eq!(
             run("read", &window),
-            format!("balise read 1\nbits {bits}\nrefused {number}\n")
+            format!("balise read 1\nbits {bits}\n{refusal}\n")
         );
         assert_eq!(
             run("capture", &window),

@@ -1,6 +1,7 @@
 //! Each refusal of check, read and read_well_formed where it is the lowest that
-//! applies.
+//! applies. More of refusal 9 is in bad_words.rs.
 
+use second::bad_words::{bad_words, word_of_kind};
 use second::bits::{bits_of, flip, number_of};
 use second::conditions::{condition_2, condition_3, condition_4, failing_conditions, thinned_run};
 use second::cyclic::{check_bits, remainder_by_g};
@@ -8,7 +9,8 @@ use second::format::{Format, FORMATS};
 use second::made::{telegram_of, valid_words, with_bits, with_word};
 use second::random::Random;
 use second::telegram::{complete, cut, well_formed};
-use second::words::{valid, word};
+use second::words::{valid, word, KINDS};
+use second::Refusal::{self, Number, Word};
 use second::{check, read, read_well_formed};
 
 fn window_of(telegram: &[u8], format: Format, turn: usize, flipped: bool) -> Vec<u8> {
@@ -18,39 +20,42 @@ fn window_of(telegram: &[u8], format: Format, turn: usize, flipped: bool) -> Vec
 /// The refusals of read and of read_well_formed. Both answer and write the same,
 /// or the second accepts where the first gives 10, 11 or 12 (document 02, No. 2).
 /// A refusal keeps every byte.
-fn read_numbers(window: &[u8]) -> [Option<u8>; 2] {
+fn read_refusals(window: &[u8]) -> [Option<Refusal>; 2] {
     let mut outputs = [[9; 830]; 2];
     let proper = read(window, &mut outputs[0]);
     let well_formed = read_well_formed(window, &mut outputs[1]);
     if proper == well_formed {
         assert_eq!(outputs[0], outputs[1]);
     } else {
-        assert!(well_formed.is_ok() && matches!(proper, Err(10..=12)));
+        assert!(well_formed.is_ok() && matches!(proper, Err(Number(10..=12))));
     }
-    let numbers = [proper.err(), well_formed.err()];
-    for (number, output) in numbers.iter().zip(outputs) {
-        assert!(number.is_none() || output == [9; 830]);
+    let refusals = [proper.err(), well_formed.err()];
+    for (refusal, output) in refusals.iter().zip(outputs) {
+        assert!(refusal.is_none() || output == [9; 830]);
     }
-    numbers
+    refusals
 }
 
 #[test]
 fn lengths_and_bytes() {
     for length in [0, 1, 340, 342, 1022, 1024] {
-        assert_eq!(check(&vec![3; length]), Err(1));
+        assert_eq!(check(&vec![3; length]), Err(Number(1)));
     }
     for length in [341, 1023] {
         let mut telegram = vec![0; length];
-        assert_eq!(check(&telegram), Err(7));
+        assert_eq!(check(&telegram), Err(Number(7)));
         telegram[length - 1] = 1;
-        assert_eq!(check(&telegram), Err(6));
+        assert_eq!(check(&telegram), Err(Number(6)));
         telegram[0] = 255;
-        assert_eq!(check(&telegram), Err(2));
+        assert_eq!(check(&telegram), Err(Number(2)));
     }
     for length in [462, 1100] {
         let mut output = [9; 209];
-        assert_eq!(read(&vec![1; length], &mut output), Err(3));
-        assert_eq!(read_well_formed(&vec![1; length], &mut output), Err(3));
+        assert_eq!(read(&vec![1; length], &mut output), Err(Number(3)));
+        assert_eq!(
+            read_well_formed(&vec![1; length], &mut output),
+            Err(Number(3))
+        );
         assert_eq!(output, [9; 209]);
     }
 }
@@ -64,11 +69,11 @@ fn ends_and_parity() {
             let mut window = window_of(&telegram, format, 5, false);
             window[place] ^= 1;
             let expected = if place < r || place >= n { 5 } else { 6 };
-            assert_eq!(read_numbers(&window), [Some(expected); 2]);
+            assert_eq!(read_refusals(&window), [Some(Number(expected)); 2]);
             if place < n {
                 let mut changed = telegram.clone();
                 changed[place] ^= 1;
-                assert_eq!(check(&changed), Err(6));
+                assert_eq!(check(&changed), Err(Number(6)));
             }
         }
     }
@@ -80,13 +85,13 @@ fn turns() {
         let telegram = telegram_of(&vec![1; format.user_bits()]);
         for turn in 1..format.telegram_bits() {
             let turned = cut(&telegram, turn, telegram.len(), false);
-            assert_eq!(check(&turned), Err(7));
+            assert_eq!(check(&turned), Err(Number(7)));
         }
-        assert_eq!(check(&flip(&telegram)), Err(8));
+        assert_eq!(check(&flip(&telegram)), Err(Number(8)));
         let three = [&telegram[..], &telegram, &telegram].concat();
         if format == Format::Short {
             assert_eq!(remainder_by_g(&three, Format::Long), 0);
-            assert_eq!(check(&three), Err(7));
+            assert_eq!(check(&three), Err(Number(7)));
         }
     }
 }
@@ -99,11 +104,12 @@ fn control_bits() {
         for control in 0..8 {
             let other = with_bits(&telegram, format, at, &bits_of(control, 3));
             let allowed = control == 1;
-            assert_eq!(check(&other).err() == Some(8), !allowed);
+            assert_eq!(check(&other) == Err(Number(8)), !allowed);
             for flipped in [false, true] {
-                let answers = read_numbers(&window_of(&other, format, 77, flipped));
+                let answers = read_refusals(&window_of(&other, format, 77, flipped));
                 // Upright, 1, 1, 0 is flipped into 0, 0, 1.
-                assert_eq!(answers == [Some(8); 2], control != 1 && control != 6);
+                let refused = answers == [Some(Number(8)); 2];
+                assert_eq!(refused, control != 1 && control != 6);
             }
         }
     }
@@ -116,27 +122,27 @@ fn words() {
     for format in FORMATS {
         let telegram = telegram_of(&random.bits(format.user_bits()));
         for index in 0..format.blocks() {
-            let barred = (0..2048).find(|&w| !valid(w)).unwrap();
-            let other = with_word(&telegram, format, index, barred);
-            assert_eq!(check(&other), Err(9));
-            let window = window_of(&other, format, 3, true);
-            assert_eq!(read_numbers(&window), [Some(9); 2]);
+            for kind in KINDS {
+                let word = word_of_kind(&mut random, kind);
+                let other = with_word(&telegram, format, index, word);
+                assert_eq!(check(&other), Err(Word { kind, index }));
+                let window = window_of(&other, format, 3, true);
+                assert_eq!(read_refusals(&window), [Some(Word { kind, index }); 2]);
+            }
         }
         let mut seen = [false; 10];
         for esb in 0..1024 {
             let at = format.shaped_bits() + 15;
             let other = with_bits(&telegram, format, at, &bits_of(esb, 10));
-            let last = &other[format.shaped_bits()..];
-            let bad: Vec<usize> = (0..10)
-                .filter(|&i| !valid(number_of(&last[11 * i..11 * i + 11]) as u16))
-                .collect();
-            if let [only] = bad[..] {
-                seen[only] = true;
+            let bad = bad_words(&other);
+            if let [(only, _)] = bad[..] {
+                seen[only - format.blocks()] = true;
             }
-            assert_eq!(check(&other) == Err(9), !bad.is_empty());
-            let answers = read_numbers(&window_of(&other, format, 200, false));
-            let well_formed = if bad.is_empty() { None } else { Some(9) };
-            assert_eq!(answers, [check(&other).err(), well_formed]);
+            let first = bad.first().map(|&(index, kind)| Word { kind, index });
+            let checked = check(&other).err();
+            assert_eq!(checked.filter(|refusal| refusal.number() == 9), first);
+            let answers = read_refusals(&window_of(&other, format, 200, false));
+            assert_eq!(answers, [checked, first]);
         }
         assert!(seen[2..].iter().filter(|&&seen| seen).count() > 0);
     }
@@ -167,19 +173,20 @@ fn conditions() {
             }
             made += 1;
             let expected = if !condition_2(&head, format) {
-                Err(10)
+                Err(Number(10))
             } else if !condition_3(&head, format) {
-                Err(11)
+                Err(Number(11))
             } else if !condition_4(&head) {
-                Err(12)
+                Err(Number(12))
             } else {
                 Ok(format)
             };
             assert_eq!(check(&head), expected);
-            seen[usize::from(expected.err().unwrap_or(0))] += 1;
+            let number = expected.err().map_or(0, Refusal::number);
+            seen[usize::from(number)] += 1;
             several += usize::from(failing_conditions(&head, format).count() > 1);
             let window = window_of(&head, format, 9, true);
-            assert_eq!(read_numbers(&window), [expected.err(), None]);
+            assert_eq!(read_refusals(&window), [expected.err(), None]);
         }
     }
     assert!(seen[0] > 0 && seen[10] > 0 && seen[11] > 0 && several > 0);
@@ -218,7 +225,7 @@ fn thinned() {
     // b(1022) is v(511), which stands 511 places after v(1022).
     assert!(thinned_run(&telegram, 1, 511 % 11) >= 31);
     assert!(!condition_4(&telegram));
-    assert_eq!(check(&telegram), Err(12));
+    assert_eq!(check(&telegram), Err(Number(12)));
     let window = window_of(&telegram, format, 50, false);
-    assert_eq!(read_numbers(&window), [Some(12), None]);
+    assert_eq!(read_refusals(&window), [Some(Number(12)), None]);
 }

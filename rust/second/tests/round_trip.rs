@@ -7,6 +7,7 @@ use second::random::Random;
 use second::read::{read, read_well_formed, user_bits_of, Reading};
 use second::scrambling::{descramble, replace_first, restore_first, scramble};
 use second::telegram::{b_of, cut, esb_of, make, well_formed};
+use second::Refusal::Number;
 use second::{check, encode, encode_skipping};
 
 /// A few blocks: zeros, ones, and some drawn.
@@ -108,13 +109,13 @@ fn short_windows_of_long_telegrams() {
         for turn in 0..telegram.len() {
             let mut window = cut(&telegram, turn, 462, turn % 2 == 1);
             let mut output = [9; 210];
-            assert_eq!(read(&window, &mut output), Err(5));
+            assert_eq!(read(&window, &mut output), Err(Number(5)));
             let changes = random.below(15);
             for place in random.places(changes, 462) {
                 window[place] ^= 1;
             }
-            assert_eq!(read(&window, &mut output), Err(5));
-            assert_eq!(read(&window, &mut output[..209]), Err(3));
+            assert_eq!(read(&window, &mut output), Err(Number(5)));
+            assert_eq!(read(&window, &mut output[..209]), Err(Number(3)));
             assert_eq!(output, [9; 210]);
         }
     }
@@ -128,8 +129,8 @@ fn long_windows_of_short_telegrams() {
             for flipped in [false, true] {
                 let window = cut(&telegram, turn, 1100, flipped);
                 let mut output = [9; 830];
-                assert_eq!(read(&window, &mut output), Err(7));
-                assert_eq!(read(&window, &mut output[..829]), Err(3));
+                assert_eq!(read(&window, &mut output), Err(Number(7)));
+                assert_eq!(read(&window, &mut output[..829]), Err(Number(3)));
                 assert_eq!(output, [9; 830]);
             }
         }

@@ -7,6 +7,7 @@ use second::encode::first_pair_skipping;
 use second::read::{read_bits, scrambled_bits_of, user_bits_of, Asked};
 use second::scrambling::{restore_first, scramble_by_top_bit};
 use second::telegram::{b_of, cut, esb_of, make};
+use second::Refusal::Number;
 use second::{check, encode, Format, Reading};
 
 /// The user bits that a row's telegram carries.
@@ -150,7 +151,7 @@ fn first_pairs_that_moved() {
         );
         if strip != ring {
             assert!((strip.b, strip.esb) < (ring.b, ring.esb));
-            assert_eq!(check(&strip.telegram), Err(10));
+            assert_eq!(check(&strip.telegram), Err(Number(10)));
             assert_eq!(check(&ring.telegram), Ok(format));
             moved.push((row.number, format));
         }

@@ -2,7 +2,8 @@
 
 use crate::scratch::{assert_answer, assert_no_answer, Scratch};
 use crate::{example, not_proper, proper, BAD, MAKE, PROPER};
-use compare::documents::{meanings, Meaning};
+use balise::Kind;
+use compare::documents::{document, meanings, Meaning};
 use compare::programs::{stderr, stdout, PROGRAMS};
 use std::fs;
 
@@ -104,6 +105,30 @@ fn a_window_that_is_not_proper() {
     assert!(answer.starts_with("balise read-well-formed 1\nbits 1100\nlong turn 0 sb "));
 }
 
+/// Refusal 9, with its kind and index.
+#[test]
+fn a_word_that_is_not_in_the_table() {
+    let scratch = Scratch::built();
+    let telegrams = document("examples/bad-words.txt");
+    for (telegram, word) in telegrams.lines().zip([
+        "kind 250 word 3",
+        "kind 20 word 8",
+        "kind other word 13",
+        "kind other word 24",
+    ]) {
+        let ran = scratch.balise(&["check", "--status"], telegram.as_bytes());
+        let answer = format!("balise check 1\nbits 341\nrefused 9 {word}\n");
+        assert_answer(&ran, 1, &answer);
+        let window = [telegram, &telegram[..121]].concat();
+        for command in ["read", "read-well-formed"] {
+            let ran = scratch.balise(&[command, "--only"], window.as_bytes());
+            assert_answer(&ran, 1, "");
+            let said = format!("balise: standard input: refused 9 {word}\n");
+            assert_eq!(stderr(&ran), said);
+        }
+    }
+}
+
 #[test]
 fn what_is_wrong_with_a_bad_input() {
     let scratch = Scratch::built();
@@ -162,6 +187,15 @@ fn a_terminal() {
     }
 }
 
+/// What is said at a terminal where the program answers with this line.
+fn said_of(scratch: &Scratch, result: &str) -> Option<String> {
+    let answer = format!("printf 'balise check 1\\nbits 1\\n{result}\\n'");
+    scratch.program("check_telegram", &answer);
+    let built = scratch.shell("rm -f target/bin/*; ./balise build");
+    assert!(built.status.success());
+    scratch.at_a_terminal("./balise check docs/BENCH.md >answer", "")
+}
+
 /// Every refusal has its words, also one with further facts on its line.
 #[test]
 fn each_refusal_has_its_words() {
@@ -172,18 +206,33 @@ fn each_refusal_has_its_words() {
             means,
             advice,
         } = row;
-        scratch.program(
-            "check_telegram",
-            &format!("printf 'balise check 1\\nbits 1\\nrefused {number} tried 5\\n'"),
-        );
-        let built = scratch.shell("rm -f target/bin/*; ./balise build");
-        assert!(built.status.success());
-        let line = "./balise check docs/BENCH.md >answer";
-        let Some(said) = scratch.at_a_terminal(line, "") else {
+        let result = format!("refused {number} tried 5");
+        let Some(said) = said_of(&scratch, &result) else {
             return;
         };
-        let words = format!("refused {number} tried 5: {means}. What to do: {advice}\n");
+        let words = format!("{result}: {means}. What to do: {advice}\n");
         assert!(said.ends_with(&words), "{said}");
+    }
+}
+
+/// Refusal 9 has those of its kind as well.
+#[test]
+fn each_kind_has_its_words() {
+    let scratch = Scratch::new();
+    let page = document("docs/BENCH.md");
+    let mut rows = meanings().into_iter();
+    let Meaning { means, advice, .. } = rows.find(|row| row.number == 9).expect("a row");
+    for kind in Kind::ALL {
+        let first = format!("| kind {kind} | ");
+        let mut rows = page.lines().filter_map(|line| line.strip_prefix(&first));
+        let row = rows.next().and_then(|row| row.strip_suffix(" |"));
+        let (looks, hint) = row.and_then(|row| row.split_once(" | ")).expect("a row");
+        let result = format!("refused 9 kind {kind} word 30");
+        let Some(said) = said_of(&scratch, &result) else {
+            return;
+        };
+        let words = format!("{means}. What to do: {advice}. Kind {kind}: {looks}; {hint}\n");
+        assert!(said.ends_with(&format!("{result}: {words}")), "{said}");
     }
 }
 

@@ -69,7 +69,8 @@ fn several_files() {
     let words = ["make", "18", "119", "block", "other", "b ad", "none"];
     let ran = scratch.balise(&words, b"");
     let answer = format!(
-        "==> block <==\n{}==> other <==\nbalise make 1\nbits 210\nrefused 9\n==> b ad <==\n{BAD}",
+        "==> block <==\n{}==> other <==\nbalise make 1\nbits 210\n\
+         refused 9 kind 250 word 23\n==> b ad <==\n{BAD}",
         made()
     );
     assert_answer(&ran, 2, &answer);
@@ -89,7 +90,10 @@ fn only_the_telegram() {
     assert_answer(&ran, 0, &format!("{telegram}\n"));
     let ran = scratch.balise(&["make", "--only", "18", "118", "block"], b"");
     assert_answer(&ran, 1, "");
-    assert_eq!(stderr(&ran), "balise: block: refused 9\n");
+    assert_eq!(
+        stderr(&ran),
+        "balise: block: refused 9 kind other word 23\n"
+    );
     let ran = scratch.balise(&["make", "--only", "18", "1024", "block"], b"");
     assert_answer(&ran, 1, "");
     assert_eq!(stderr(&ran), "balise: block: refused 27\n");

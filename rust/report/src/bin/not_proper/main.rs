@@ -15,7 +15,7 @@ use second::conditions::{
 };
 use second::format::{Format, FORMATS};
 use second::random::Random;
-use second::refusal::{OFF_STEP, PERIOD, THINNED};
+use second::refusal::{Refusal, OFF_STEP, PERIOD, THINNED};
 use second::rings::other_steps_hold;
 use second::words::WORD_BITS;
 
@@ -56,8 +56,8 @@ fn print(telegram: &[u8]) {
 }
 
 /// Are these the refusals of the conditions that fail?
-fn fail(telegram: &[u8], format: Format, numbers: &[u8]) -> bool {
-    failing_conditions(telegram, format).eq(numbers.iter().copied())
+fn fail(telegram: &[u8], format: Format, refusals: &[Refusal]) -> bool {
+    failing_conditions(telegram, format).eq(refusals.iter().copied())
 }
 
 /// Condition 2 alone: one run at step p, one word over the limit, that does not
@@ -167,7 +167,7 @@ fn thinned(search: &mut Search, format: Format, k: u32, alignment: usize) -> Vec
 }
 
 /// Several conditions, those with these refusals. Condition 2 fails by chance.
-fn several(search: &mut Search, format: Format, failing: &[u8]) -> Vec<u8> {
+fn several(search: &mut Search, format: Format, failing: &[Refusal]) -> Vec<u8> {
     let random = &mut search.random;
     let (mut words, mut equations) = (Vec::new(), Vec::new());
     if failing.contains(&THINNED) {
