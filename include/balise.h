@@ -46,21 +46,25 @@ uint64_t balise_encode(const uint8_t *block, size_t block_len, uint8_t *output,
  * Refusals: 1, 2, 27, 3, 9. They are tested in this order, not in that of their
  * numbers. 27: b is over 4095 or esb over 1023, by however much; a negative
  * number, converted, is too large. 9: a word of the telegram, the last ten
- * included, is not in the table; most pairs give this. */
+ * included, is not in the table; most pairs give this. Refusal 9 has the kind and
+ * the index of the first bad word; it is one of the last ten, since the words before
+ * them come from the table. */
 uint64_t balise_make(const uint8_t *block, size_t block_len, uint64_t b, uint64_t esb,
                      uint8_t *output, size_t output_len);
 
 /* Checks a telegram of 1023 or 341 bits.
  * Answer: number, format.
- * Refusals: 1, 2, 6 to 12. */
+ * Refusals: 1, 2, 6 to 12. Refusal 9 has the kind and the index of the first bad
+ * word. */
 uint64_t balise_check(const uint8_t *telegram, size_t telegram_len);
 
 /* Reads a window of 1100 or 462 bits of a proper telegram.
  * output: at least 830 or 210 bytes; the user bits go into its front, and the
  * rest is kept. A refusal keeps every byte.
  * Answer: number, format, BALISE_READ_FLIPPED, _B, _TURN and _ESB.
- * Refusals: 1, 2, 3, 5 to 12. With 10, 11 and 12 the telegram in the window is
- * well-formed and not fit to burn. */
+ * Refusals: 1, 2, 3, 5 to 12. Refusal 9 has the kind and the index of the first bad
+ * word. With 10, 11 and 12 the telegram in the window is well-formed and not fit to
+ * burn. */
 uint64_t balise_read(const uint8_t *window, size_t window_len, uint8_t *output,
                      size_t output_len);
 
@@ -68,7 +72,8 @@ uint64_t balise_read(const uint8_t *window, size_t window_len, uint8_t *output,
  * for boxes that are to be read and not approved. Parameters, answer and what is
  * written are those of balise_read; but where that refuses with 10, 11 or 12, this
  * call reads the window.
- * Refusals: 1, 2, 3, 5 to 9. */
+ * Refusals: 1, 2, 3, 5 to 9. Refusal 9 has the kind and the index of the first bad
+ * word. */
 uint64_t balise_read_well_formed(const uint8_t *window, size_t window_len, uint8_t *output,
                                  size_t output_len);
 
@@ -111,6 +116,17 @@ uint64_t balise_search(const uint8_t *capture, size_t capture_len);
 
 /* balise_search. */
 #define BALISE_PLACE(answer) ((size_t)((uint64_t)(answer) >> 32 & 0xffff))
+
+/* Refusal 9: the kind of the first word that is not in the table, and its index,
+ * counted from 0 at the left of the telegram turned back and upright: 0 to 92 long, 0
+ * to 30 short. The word is bits 11 * index to 11 * index + 10 of that telegram,
+ * counted in the same way. In earlier versions the answer was 9 alone, with 0 in these
+ * bits: a caller who compared the whole answer with 9 must take BALISE_NUMBER. */
+#define BALISE_KIND_250 250 /* in the group of 250 */
+#define BALISE_KIND_20 20   /* in the group of 20 */
+#define BALISE_KIND_OTHER 0 /* in neither group: simply not in the table */
+#define BALISE_WORD_KIND(answer) ((unsigned)((uint64_t)(answer) >> 10 & 0xfff))
+#define BALISE_WORD_INDEX(answer) ((unsigned)((uint64_t)(answer) >> 22 & 0x3ff))
 
 /* ---- sizes, by format */
 

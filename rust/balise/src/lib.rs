@@ -6,7 +6,7 @@
 //! is kept, and a refusal keeps every byte.
 //!
 //! ```
-//! use balise::{Refusal, MAX_TELEGRAM_BITS, MAX_USER_BITS};
+//! use balise::{Kind, Refusal, MAX_TELEGRAM_BITS, MAX_USER_BITS};
 //!
 //! let block = [1; 210];
 //! let mut output = [0; MAX_TELEGRAM_BITS];
@@ -25,6 +25,11 @@
 //! let mut again = [0; MAX_TELEGRAM_BITS];
 //! let format = balise::make(user, reading.b.into(), reading.esb.into(), &mut again)?;
 //! assert_eq!(again[..format.telegram_bits()], *telegram);
+//!
+//! // with B 0 the word after the shaped data is 00100000000
+//! let (kind, index) = (Kind::Group250, 21);
+//! let refused = Err(Refusal::NotWord { kind, index });
+//! assert_eq!(balise::make(user, 0, 0, &mut again), refused);
 //! # Ok::<(), Refusal>(())
 //! ```
 //!
@@ -34,9 +39,11 @@
 //! declares the same for C.
 
 mod format;
+mod kind;
 mod refusal;
 
 pub use format::{Format, CAPTURE_LIMIT, MAX_TELEGRAM_BITS, MAX_USER_BITS, MAX_WINDOW_BITS};
+pub use kind::Kind;
 pub use refusal::Refusal;
 
 mod exported {
@@ -155,12 +162,22 @@ impl Answer {
         Found { place, reading }
     }
 
+    /// Refusal 9, whose kind and index have the places of b and the turn.
+    fn not_word(&mut self) -> Refusal {
+        let fields = self.reading();
+        Refusal::NotWord {
+            kind: Kind::of_number(fields.b),
+            index: fields.turn,
+        }
+    }
+
     /// The refusal with this number and what it carries.
     fn refusal(&mut self, number: u8) -> Refusal {
         match Refusal::of_number(number) {
             Refusal::NoPair { .. } => Refusal::NoPair {
                 tried: self.encoded().count,
             },
+            Refusal::NotWord { .. } => self.not_word(),
             refusal => refusal,
         }
     }
@@ -212,7 +229,8 @@ pub fn encode(block: &[u8], output: &mut [u8]) -> Result<Encoded, Refusal> {
 /// Refuses, tested in this order, with `Length`, `NotBit`, `PairTooLarge` where
 /// `b` is over 4095 or `esb` over 1023, `OutputShort`, and `NotWord` where a word
 /// of the telegram, the last ten included, is not in the table: so with most
-/// pairs.
+/// pairs. The word it names is one of the last ten: those before them come from the
+/// table.
 pub fn make(block: &[u8], b: u64, esb: u64, output: &mut [u8]) -> Result<Format, Refusal> {
     // SAFETY: the pointers and lengths are those of slices that do not overlap,
     // and the contract asks nothing.

@@ -1,6 +1,9 @@
-//! The refusals (document 01, "When the bench says no"; document 02, No. 11).
+//! The refusals (document 01, "When the bench says no"; document 02, No. 11 and
+//! No. 13).
 
 use std::fmt;
+
+use crate::Kind;
 
 /// Why a call refuses. Of several reasons it is the one with the lowest number;
 /// but [`make`](crate::make) tests `PairTooLarge` before `OutputShort`.
@@ -23,8 +26,10 @@ pub enum Refusal {
     NoTurn,
     /// The control bits are not 0, 0, 1.
     Control,
-    /// A word is not in the table.
-    NotWord,
+    /// A word is not in the table: the kind and the index of the first such word,
+    /// counted from 0 at the left of the telegram turned back and upright. It is the
+    /// telegram's bits from `11 * index` on.
+    NotWord { kind: Kind, index: usize },
     /// Condition 2 fails.
     OffStep,
     /// Condition 3 fails.
@@ -40,7 +45,8 @@ pub enum Refusal {
 }
 
 impl Refusal {
-    /// Every refusal with a name, by number. What one carries is 0 here.
+    /// Every refusal with a name, by number. What one carries is 0 here, and a
+    /// kind the one whose number is 0.
     pub const ALL: [Refusal; 14] = [
         Refusal::Length,
         Refusal::NotBit,
@@ -50,7 +56,10 @@ impl Refusal {
         Refusal::NotDivisible,
         Refusal::NoTurn,
         Refusal::Control,
-        Refusal::NotWord,
+        Refusal::NotWord {
+            kind: Kind::Other,
+            index: 0,
+        },
         Refusal::OffStep,
         Refusal::Repeating,
         Refusal::Thinned,
@@ -77,7 +86,7 @@ impl Refusal {
                 "the control bits are not 0, 0, 1; \
                  in check, perhaps all bits are flipped",
             ),
-            Refusal::NotWord => (9, "a word is not in the table"),
+            Refusal::NotWord { .. } => (9, "a word is not in the table"),
             Refusal::OffStep => (10, "off-step words run too long"),
             Refusal::Repeating => (11, "the telegram repeats itself a third of the way round"),
             Refusal::Thinned => (12, "thinned words run too long"),
@@ -97,7 +106,7 @@ impl Refusal {
         self.row().1
     }
 
-    /// The refusal with this number; what it carries is 0.
+    /// The refusal with this number; what it carries is as in `ALL`.
     pub(crate) fn of_number(number: u8) -> Refusal {
         Refusal::ALL
             .into_iter()
@@ -107,12 +116,14 @@ impl Refusal {
 }
 
 /// As the programs write it: `refused 4 tried 4194304: no pair gives a proper
-/// telegram`.
+/// telegram`, `refused 9 kind 250 word 83: a word is not in the table`.
 impl fmt::Display for Refusal {
     fn fmt(&self, f: &mut fmt::Formatter) -> fmt::Result {
         write!(f, "refused {}", self.number())?;
-        if let Refusal::NoPair { tried } = self {
-            write!(f, " tried {tried}")?;
+        match self {
+            Refusal::NoPair { tried } => write!(f, " tried {tried}")?,
+            Refusal::NotWord { kind, index } => write!(f, " kind {kind} word {index}")?,
+            _ => {}
         }
         write!(f, ": {}", self.words())
     }
@@ -123,6 +134,7 @@ impl std::error::Error for Refusal {}
 #[cfg(test)]
 mod tests {
     use super::Refusal;
+    use crate::Kind;
 
     #[test]
     fn every_number_is_that_of_its_refusal() {
@@ -143,6 +155,15 @@ mod tests {
         assert_eq!(
             refusal.to_string(),
             "refused 4 tried 4194304: no pair gives a proper telegram"
+        );
+        let displayed = Kind::ALL.map(|kind| Refusal::NotWord { kind, index: 83 }.to_string());
+        assert_eq!(
+            displayed,
+            [
+                "refused 9 kind 250 word 83: a word is not in the table",
+                "refused 9 kind 20 word 83: a word is not in the table",
+                "refused 9 kind other word 83: a word is not in the table",
+            ]
         );
         assert_eq!(
             Refusal::NotBit.to_string(),

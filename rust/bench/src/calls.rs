@@ -1,13 +1,13 @@
 //! The public calls against the second program's.
 
 use crate::{heading, microseconds, plain, row, set, timed, timed_row, INPUTS, SETS};
-use balise::{Refusal, MAX_TELEGRAM_BITS, MAX_USER_BITS};
+use balise::{MAX_TELEGRAM_BITS, MAX_USER_BITS};
 use second::format::{Format, FORMATS};
 use second::made::random_telegrams;
 use second::random::Random;
 use second::read::user_bits_of;
 use second::telegram::{b_of, cut, esb_of};
-use second::Reading;
+use second::{Reading, Refusal};
 use std::fmt::Debug;
 use std::hint::black_box;
 
@@ -138,9 +138,9 @@ fn make_row(random: &mut Random, proper: &[Vec<u8>], format: Format) {
 /// A window call: its name, ours, that of plain Rust and the second program's.
 struct WindowCall {
     name: &'static str,
-    ours: fn(&[u8], &mut [u8]) -> Result<balise::Reading, Refusal>,
-    plain: fn(&[u8], &mut [u8]) -> Result<Reading, u8>,
-    second: fn(&[u8], &mut [u8]) -> Result<Reading, u8>,
+    ours: fn(&[u8], &mut [u8]) -> Result<balise::Reading, balise::Refusal>,
+    plain: fn(&[u8], &mut [u8]) -> Result<Reading, Refusal>,
+    second: fn(&[u8], &mut [u8]) -> Result<Reading, Refusal>,
 }
 
 const READ: WindowCall = WindowCall {

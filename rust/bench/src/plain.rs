@@ -6,7 +6,7 @@ use second::format::{Format, CHECK_BITS};
 use second::read::Asked;
 use second::telegram::{B_VALUES, CONTROL, ESB_VALUES};
 use second::words;
-use second::{refusal, Reading};
+use second::{refusal, Reading, Refusal};
 use std::sync::LazyLock;
 
 /// The number that B is multiplied by, and the taps of the register
@@ -141,17 +141,24 @@ static NUMBERS: LazyLock<[u16; 2048]> = LazyLock::new(|| {
     numbers
 });
 
+/// Refusal 9 of the word at an index.
+#[cold]
+fn not_word(index: usize, word: &[u8]) -> Refusal {
+    let kind = words::wrong(number(word) as u16).expect("a word that is not in the table");
+    Refusal::Word { kind, index }
+}
+
 /// Reads a window, as the second program's `read`.
-pub fn read(window: &[u8], output: &mut [u8]) -> Result<Reading, u8> {
+pub fn read(window: &[u8], output: &mut [u8]) -> Result<Reading, Refusal> {
     read_asked(Asked::Proper, window, output)
 }
 
 /// Reads a window, as the second program's `read_well_formed`.
-pub fn read_well_formed(window: &[u8], output: &mut [u8]) -> Result<Reading, u8> {
+pub fn read_well_formed(window: &[u8], output: &mut [u8]) -> Result<Reading, Refusal> {
     read_asked(Asked::WellFormed, window, output)
 }
 
-fn read_asked(asked: Asked, window: &[u8], output: &mut [u8]) -> Result<Reading, u8> {
+fn read_asked(asked: Asked, window: &[u8], output: &mut [u8]) -> Result<Reading, Refusal> {
     match Format::of_window(window.len()).ok_or(refusal::LENGTH)? {
         Format::Long => read_as::<F, G>(Format::Long, asked, window, output),
         Format::Short => read_as::<SHORT_F, SHORT_G>(Format::Short, asked, window, output),
@@ -163,7 +170,7 @@ fn read_as<const F: u128, const G: u128>(
     asked: Asked,
     window: &[u8],
     output: &mut [u8],
-) -> Result<Reading, u8> {
+) -> Result<Reading, Refusal> {
     if window.iter().any(|&byte| byte > 1) {
         return Err(refusal::NOT_A_BIT);
     }
@@ -205,19 +212,20 @@ fn user_bits(
     asked: Asked,
     telegram: &[u8],
     output: &mut [u8],
-) -> Result<(u16, u16), u8> {
+) -> Result<(u16, u16), Refusal> {
     let (_, fields) = telegram.split_at(format.shaped_bits());
     if fields[..3] != CONTROL {
         return Err(refusal::CONTROL);
     }
     let mut scrambled = [0; 10 * Format::Long.words()];
-    for (word, ten) in telegram
+    for (index, (word, ten)) in telegram
         .chunks_exact(11)
         .zip(scrambled.chunks_exact_mut(10))
+        .enumerate()
     {
         let found = NUMBERS[number(word) as usize];
         if found == NO_NUMBER {
-            return Err(refusal::WORD);
+            return Err(not_word(index, word));
         }
         write_number(found.into(), ten);
     }
@@ -236,7 +244,7 @@ static WORDS: LazyLock<[u16; words::ENTRIES]> =
 
 /// Makes a telegram, as the second program's `make`. Of the words the last ten are
 /// tested: the others come from the table.
-pub fn make(block: &[u8], b: u64, esb: u64, output: &mut [u8]) -> Result<Format, u8> {
+pub fn make(block: &[u8], b: u64, esb: u64, output: &mut [u8]) -> Result<Format, Refusal> {
     match Format::of_block(block.len()).ok_or(refusal::LENGTH)? {
         Format::Long => make_as::<G, FG>(Format::Long, block, b, esb, output),
         Format::Short => make_as::<SHORT_G, SHORT_FG>(Format::Short, block, b, esb, output),
@@ -249,7 +257,7 @@ fn make_as<const G: u128, const FG: u128>(
     b: u64,
     esb: u64,
     output: &mut [u8],
-) -> Result<Format, u8> {
+) -> Result<Format, Refusal> {
     if block.iter().any(|&byte| byte > 1) {
         return Err(refusal::NOT_A_BIT);
     }
@@ -271,10 +279,7 @@ fn make_as<const G: u128, const FG: u128>(
     for (place, bit) in places.rev().enumerate() {
         *bit = (check >> place & 1) as u8;
     }
-    let last_ten = &telegram[format.shaped_bits()..];
-    if last_ten.chunks_exact(11).any(|word| !is_word(&VALID, word)) {
-        return Err(refusal::WORD);
-    }
+    words_from(format.blocks(), telegram)?;
     output.copy_from_slice(telegram);
     Ok(format)
 }
@@ -314,6 +319,16 @@ fn eight(bits: &[u8]) -> usize {
 /// Whether eleven bits are a word of the table.
 fn is_word(valid: &[bool; 2048], bits: &[u8]) -> bool {
     valid[eight(&bits[..8]) << 3 | eight(&bits[3..11]) & 7]
+}
+
+/// Whether the words of a telegram from an index on are in the table: refusal 9 of
+/// the first that is not.
+fn words_from(index: usize, telegram: &[u8]) -> Result<(), Refusal> {
+    let mut words = telegram.chunks_exact(11).enumerate().skip(index);
+    match words.find(|(_, word)| !is_word(&VALID, word)) {
+        None => Ok(()),
+        Some((index, word)) => Err(not_word(index, word)),
+    }
 }
 
 /// Room for a telegram twice, one after the other: no word of its ring crosses
@@ -410,7 +425,7 @@ pub fn condition_4(format: Format, telegram: &[u8]) -> bool {
 }
 
 /// Conditions 2, 3 and 4: the refusal of the first that fails.
-fn conditions(format: Format, telegram: &[u8]) -> Result<(), u8> {
+fn conditions(format: Format, telegram: &[u8]) -> Result<(), Refusal> {
     if !condition_2(format, telegram) {
         Err(refusal::OFF_STEP)
     } else if !condition_3(format, telegram) {
@@ -423,14 +438,17 @@ fn conditions(format: Format, telegram: &[u8]) -> Result<(), u8> {
 }
 
 /// Checks a telegram, as the second program's `check`.
-pub fn check(telegram: &[u8]) -> Result<Format, u8> {
+pub fn check(telegram: &[u8]) -> Result<Format, Refusal> {
     match Format::of_telegram(telegram.len()).ok_or(refusal::LENGTH)? {
         Format::Long => check_as::<F, G>(Format::Long, telegram),
         Format::Short => check_as::<SHORT_F, SHORT_G>(Format::Short, telegram),
     }
 }
 
-fn check_as<const F: u128, const G: u128>(format: Format, telegram: &[u8]) -> Result<Format, u8> {
+fn check_as<const F: u128, const G: u128>(
+    format: Format,
+    telegram: &[u8],
+) -> Result<Format, Refusal> {
     if telegram.iter().any(|&byte| byte > 1) {
         Err(refusal::NOT_A_BIT)
     } else if remainder::<G>(telegram) != 0 {
@@ -439,9 +457,9 @@ fn check_as<const F: u128, const G: u128>(format: Format, telegram: &[u8]) -> Re
         Err(refusal::TURN)
     } else if telegram[format.shaped_bits()..][..3] != CONTROL {
         Err(refusal::CONTROL)
-    } else if telegram.chunks_exact(11).any(|word| !is_word(&VALID, word)) {
-        Err(refusal::WORD)
     } else {
-        conditions(format, telegram).map(|()| format)
+        words_from(0, telegram)?;
+        conditions(format, telegram)?;
+        Ok(format)
     }
 }

@@ -14,7 +14,8 @@ use second::random::Random;
 use second::read::user_bits_of;
 use second::rings::{one_run, ring_of_words, runs_about, words_as};
 use second::telegram::{b_of, cut, esb_of, well_formed};
-use second::Reading;
+use second::words::KINDS;
+use second::{Reading, Refusal};
 
 /// Compares plain Rust's answer with that of the proved call and of the
 /// second program.
@@ -44,8 +45,8 @@ fn compare_make(
 }
 
 /// A window call of plain Rust, and both programs' one, with the output.
-type Plain = fn(&[u8], &mut [u8]) -> Result<Reading, u8>;
-type Both = fn(&mut Random, &[u8], usize) -> (Result<Reading, u8>, Vec<u8>);
+type Plain = fn(&[u8], &mut [u8]) -> Result<Reading, Refusal>;
+type Both = fn(&mut Random, &[u8], usize) -> (Result<Reading, Refusal>, Vec<u8>);
 
 /// What each window call of plain Rust answered.
 #[derive(Default)]
@@ -62,7 +63,7 @@ fn compare_by(
     both: Both,
     window: &[u8],
     room: usize,
-) -> Result<Reading, u8> {
+) -> Result<Reading, Refusal> {
     let mut output = vec![0; room];
     let answer = plain(window, &mut output);
     let (expected, user) = both(random, window, room);
@@ -167,6 +168,9 @@ fn answers_are_those_of_the_proved_calls() {
     assert_eq!(proper.numbers(), [0, 1, 2, 3, 5, 6, 7, 8, 9, 10, 11, 12]);
     well_formed.print("windows read by plain Rust's read_well_formed, by number");
     assert_eq!(well_formed.numbers(), [0, 1, 2, 3, 5, 6, 7, 8, 9]);
+    for tally in [checked, made, proper, well_formed] {
+        assert_eq!(tally.kinds(), KINDS.into());
+    }
 }
 
 #[test]

@@ -127,7 +127,9 @@ pub fn word(i: u16) -> u16 {
     unsafe { exported::balise_layers_word(i) }
 }
 
-/// The number of a word, or 1024 where the table does not have it.
+/// The number of a word, or 1024 plus the number of its kind where the table does
+/// not have it: 1274 in the group of 250, 1044 in the group of 20, and 1024 in
+/// neither. Of 2048 and above it is 1024.
 #[inline]
 pub fn look_up(word: u16) -> u16 {
     // SAFETY: the contract asks nothing.
