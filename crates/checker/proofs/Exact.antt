@@ -117,8 +117,7 @@ refused-named format b bad e =
     let (divides, f) = later-row refusalNumber tt f in
     let (turn, f) = later-row refusalNumber tt f in
     let (controlled, f) = later-row refusalNumber tt f in
-    let (is, some) = this-row refusalNumber (conditions-rise format b 9 (omega arith)) f in
-    (
+    let (is, some) = this-row refusalNumber (conditions-rise format b 9 (omega arith)) f in (
       control-and-check format b (rows-formed format b size bits divides turn controlled),
       first-bad b (F .words) bad .0 (not-true (allWords (F .words) b) (is-true (not (allWords (F .words) b)) some), cc),
     )

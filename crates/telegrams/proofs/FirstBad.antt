@@ -22,9 +22,15 @@ use Rattle.words.specs.declared.Lookup.the-variants.{NotInTable}
 use Rattle.words.specs.declared.BadWord.{BadWord}
 use Rattle.words.specs.Words.{kindOf, lookupOf, isNumber, isWord}
 use Rattle.words.proofs.Numbers.{lookup-kind, lookup-absent}
+use Rattle.telegrams.specs.declared.fields.Worded.{Worded}
 use Rattle.telegrams.specs.declared.fields.Worded.the-variants.{Whole, NotWord}
 use Rattle.telegrams.specs.Fields.{allWords}
 use Rattle.telegrams.specs.Worded.{wordAt, isBad, firstBad, badWordAt, badWord, worded, IsFirstBad}
+
+-- every word is in the table
+abbrev pub isWhole : Worded → Bool
+isWhole Whole = true
+isWhole (NotWord bad) = false
 
 module _ (b : List ℕ) where
   -- all words from index i on are in the table where the search from there finds none
@@ -61,13 +67,16 @@ module _ (b : List ℕ) where
     found-not-word j e = rw (found-some j e, e)
 
     -- and what is told says of all words
-    pub whole-all : worded k b ≡ Whole → allWords k b ≡ true
+    pub worded-all : isWhole (worded k b) ≡ allWords k b
     unfolding worded
-    whole-all e = go (allWords k b) refl e
+    worded-all = go (allWords k b)
       where
-        go : (t : Bool) → allWords k b ≡ t → cond t Whole (NotWord (badWord k b)) ≡ Whole → t ≡ true
-        go true f e = refl
-        go false f e = clash cc
+        go : (t : Bool) → isWhole (cond t Whole (NotWord (badWord k b))) ≡ t
+        go true = refl
+        go false = refl
+
+    pub whole-all : worded k b ≡ Whole → allWords k b ≡ true
+    whole-all e = sym worded-all ∙ ap isWhole e
 
     pub not-word-some : (bad : BadWord) → worded k b ≡ NotWord bad → (allWords k b ≡ false) × (badWord k b ≡ bad)
     unfolding worded
@@ -111,12 +120,12 @@ module _ (b : List ℕ) where
     first-bad-is bad is =
         let j = bad .index in
         let first : IsFirst (isBad b) 0 k j =
-            record {
-              from = omega arith;
-              below = omega (arith, is .among);
-              passed = found-bad j (bad .kind) (is .found);
-              earlier = λ i from below. good-not-bad i (is .before i below);
-            } in
+        record {
+          from = omega arith;
+          below = omega (arith, is .among);
+          passed = found-bad j (bad .kind) (is .found);
+          earlier = λ i from below. good-not-bad i (is .before i below);
+        } in
         let e = found-first (isBad b) 0 k j first in
         let kind : kindOf (numberOf (wordAt b j)) ≡ bad .kind = sym (lookup-kind _ (bad .kind) (is .found)) in
         (found-some j e, rw (e, kind) refl)

@@ -22,23 +22,6 @@ pub enum Worded {
 // b109 to b107.
 const CONTROL: [u8; 3] = [0, 0, 1];
 
-// Whether the first k words of s are all in the table.
-pub fn all_words(s: &[u8], k: usize) -> bool
-    requires { ⌜ T (allBits (now s)) ⌝ }
-    requires { ⌜ 11 * k ≤ length (now s) ⌝ }
-    ensures { λ r. ⌜ r ≡ allWords k (now (s .entry)) ⌝ }
-{
-    let mut j = 0;
-    while j < k {
-        let word = bits::number(s, 11 * j, 11);
-        if !words::in_table(word as u16) {
-            return false;
-        }
-        j += 1;
-    }
-    true
-}
-
 // That the word of s with this index is not in the table.
 pub fn not_word(s: &[u8], index: usize) -> Worded
     requires { ⌜ T (allBits (now s)) ⌝ }
@@ -50,7 +33,7 @@ pub fn not_word(s: &[u8], index: usize) -> Worded
     Worded::NotWord(BadWord { kind, index })
 }
 
-// Whether the first k words of s are all in the table, and else the first that is not.
+// Goes through the first k words of s: each is in the table, or the first that is not.
 pub fn go_through(s: &[u8], k: usize) -> Worded
     requires { ⌜ T (allBits (now s)) ⌝ }
     requires { ⌜ 11 * k ≤ length (now s) ⌝ }
@@ -65,6 +48,19 @@ pub fn go_through(s: &[u8], k: usize) -> Worded
         at += 1;
     }
     Worded::Whole
+}
+
+// Whether the first k words of s are all in the table.
+pub fn all_words(s: &[u8], k: usize) -> bool
+    requires { ⌜ T (allBits (now s)) ⌝ }
+    requires { ⌜ 11 * k ≤ length (now s) ⌝ }
+    ensures { λ r. ⌜ r ≡ allWords k (now (s .entry)) ⌝ }
+{
+    let told = go_through(s, k);
+    match told {
+        Worded::Whole => true,
+        Worded::NotWord(_) => false,
+    }
 }
 
 // Whether the control bits are 0, 0, 1.

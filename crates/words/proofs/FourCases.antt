@@ -48,8 +48,8 @@ tallied test k (x ∷ xs) f h =
     front f (length xs)
     ∙ ap₂ oneMoreIf (h 0 (omega arith) ∙ ap (λ (p : ℕ). test p x) place)
     (tallied test (suc k) xs (λ i. f (suc i)) (λ i below.
-        let next : k + suc i ≡ suc k + i = omega arith in
-        h (suc i) (omega arith) ∙ ap (λ (p : ℕ). test p (getD xs i 0)) next))
+    let next : k + suc i ≡ suc k + i = omega arith in
+    h (suc i) (omega arith) ∙ ap (λ (p : ℕ). test p (getD xs i 0)) next))
 
 -- ---- the four cases
 
@@ -63,8 +63,8 @@ by-inverse : (test : Lookup → Bool) → howMany (λ w. test (lookupOf w)) 2048
 by-inverse test =
     subst (λ (n : ℕ). howMany (λ w. test (lookupOf w)) n ≡ tally (λ w n. test (says w n)) 0 inverse) inverse-length
     (tallied (λ w n. test (says w n)) 0 inverse (λ w. test (lookupOf w)) (λ i below.
-        let same : 0 + i ≡ i = omega arith in
-        ap test (inverse-tells i (omega (arith, inverse-length))) ∙ ap (λ (p : ℕ). test (says p (getD inverse i 0))) (sym same)))
+    let same : 0 + i ≡ i = omega arith in
+    ap test (inverse-tells i (omega (arith, inverse-length))) ∙ ap (λ (p : ℕ). test (says p (getD inverse i 0))) (sym same)))
 
 pub numbers-found : howMany inTable 2048 ≡ 1024
 unfolding tally inverse inverseFrom table

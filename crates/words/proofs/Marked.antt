@@ -22,9 +22,6 @@ marked x y p q w = rank x y w + 2048 * (1 - bitAt x w + bitAt p w + 2 * bitAt q 
 
 module _ (w x : ℕ) (x-is : x ≡ getD present (w / 64) 0) (y : ℕ) (y-is : y ≡ getD before (w / 64) 1024)
     (p q : ℕ) (p-is : p ≡ getD group20 (w / 64) 0) (q-is : q ≡ getD group250 (w / 64) 0) where
-  pub marked-small : marked x y p q w < 65536
-  marked-small = omega (arith, rank-small w x x-is y y-is)
-
   -- without a mark it is the number
   pub marked-number : marked x y p q w < 2048 → Number (marked x y p q w) ≡ lookupOf w
   marked-number l = go (bitAt x w) refl

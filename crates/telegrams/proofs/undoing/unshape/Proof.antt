@@ -139,8 +139,7 @@ returns-2 : tie.Need-returns-2 Inv-loop μ-loop
 returns-2 c =
     let l = c .before in
     let a = l .before .before .before .args in
-    let all : l .loop .j ≡ a .k = omega arith in
-    (
+    let all : l .loop .j ≡ a .k = omega arith in (
       sym (none-whole _ _ (left-none (l .loop .inv .2) (omega arith))),
       λ h. l .loop .inv .3 ∙ ap (λ (j : ℕ). unshaped j (a .telegram .now) ++ drop (10 * j) (a .out .now)) all,
     )
