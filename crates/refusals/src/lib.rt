@@ -1,5 +1,5 @@
-// The refusals and their numbers (document 01, "When the bench says no", in its order; 27 is document 02's, No. 11), and what a
-// refusal carries.
+// The refusals and their numbers (document 01, "When the bench says no", in its order; 27 is document 02's, No. 11), and what
+// refusals 4 and 9 carry (document 02, No. 13).
 ghost use mathlib.Core.Path.{_≡_};
 ghost use Rattle.refusals.specs.Refused.{refusalNumber, triedCount, badWordIn};
 use words::BadWord;

@@ -33,7 +33,8 @@ pub fn print_none() {
     io::write_all(STDOUT_FILENO, b"none\n");
 }
 
-// Line three of a refusal: its number, for 4 the count of pairs tried, and for 9 the kind and the index of the first bad word.
+// Line three of a refusal: its number, for 4 the count of pairs tried, and for 9 the kind and the index of the first bad word
+// (document 02, No. 13).
 pub fn print_refused(refusal: Refusal) {
     let number = refusals::number(refusal);
     io::write_all(STDOUT_FILENO, b"refused ");

@@ -1,4 +1,5 @@
-// The 10-to-11 table (document 01, "Words"): the word of a number, the number of a word, and the barred words.
+// The 10-to-11 table (document 01, "Words"; document 02, No. 13): the word of a number, the number of a word, the barred words, and the kind
+// of a word that the table does not have.
 ghost use mathlib.Core.Path.{_≡_};
 ghost use Prim.Native.Nat.{_<_};
 ghost use Rattle.words.specs.Table.{table};
