@@ -1,0 +1,99 @@
+-- Two lists of bits that g divides, and that differ only within 75 neighbouring places, are equal: the sum of the two is x^i times a
+-- polynomial of degree at most 74; i shifts of a register by g, of which n do nothing, make only 0 to 0; and what has at most 75
+-- coefficients is its own remainder. Assumes nothing.
+use Prim.Native.Nat.{ℕ, zero, suc, _+_, _-_, _≤_}
+use mathlib.Core.Path.{_≡_, refl, sym, ap, ap₂, _∙_}
+use mathlib.Core.List.{List, [], _∷_, _++_}
+use native.Mathlib.Omega.{arith}
+use lib.ListN.{length, drop, length-append, replicate-append-replicate}
+use lib.Seq.{drop-at}
+use Rattle.bits.proofs.AllBits.{allBits-append}
+use Rattle.formats.specs.Polynomial.{sum}
+use Rattle.formats.specs.Numbers.{Numbers, gOf}
+use Rattle.cyclic.specs.Remainder.{remainder}
+use Rattle.cyclic.proofs.Lists.{Bits, zeros, length-zeros, bits-zeros, bits-sum, length-sum, sum-assoc, sum-comm, sum-zeros, sum-self, sum-append}
+use Rattle.cyclic.proofs.Space.{pow, pow-X, pow-nil, pow-times, times, times-sum, run-append, zeros-front, zeros-back}
+use Rattle.cyclic.proofs.Registers.{Reg, same-bits, remainder-is, one, none}
+use Rattle.cyclic.proofs.Quotients.{rem-short}
+use Rattle.cyclic.proofs.Facts.{Facts}
+use Rattle.cyclic.proofs.Cyclic.{g-divides, round-trip, modG, remG}
+
+-- two lists of bits whose sum is 0 are equal
+sum-nothing : (x y : List ℕ) → Bits x → Bits y → length x ≡ length y → sum x y ≡ zeros (length x) → x ≡ y
+sum-nothing x y hx hy l e =
+    let k = length x in
+    sym (sum-zeros x hx) ∙ sum-comm (zeros k) x ∙ ap (sum x) (sym e) ∙ sym (sum-assoc x x y) ∙ ap (λ (u : List ℕ). sum u y) (sum-self x)
+    ∙ ap (λ (j : ℕ). sum (zeros j) y) l ∙ sum-zeros y hy
+
+-- the sum of two lists that differ in a middle part only
+sum-middle : (p x y q : List ℕ) → length x ≡ length y → sum (p ++ (x ++ q)) (p ++ (y ++ q)) ≡ zeros (length p) ++ (sum x y ++ zeros (length q))
+sum-middle p x y q l =
+    sum-append p p (x ++ q) (y ++ q) refl
+    ∙ ap₂ _++_ (sum-self p) (sum-append x y q q l ∙ ap (λ (u : List ℕ). sum x y ++ u) (sum-self q))
+
+module _ (F : Numbers) (A : Facts F) where
+  -- n shifts do nothing to a register by g
+  shifts-round : (s : Reg 75) → pow (modG F A) (F .n) s ≡ s
+  shifts-round s =
+      let M = modG F A in
+      let itself = rem-short 74 (gOf F) (A .g-degree) s in
+      ap (pow M (F .n)) (sym itself) ∙ pow-times M (F .n) (s .of) (one 74)
+      ∙ ap (times M (s .of)) (round-trip F A 74 (gOf F) (A .g-degree) (g-divides F A)) ∙ itself
+
+  -- so one shift makes only 0 to 0
+  shift-nil : (s : Reg 75) → modG F A .X s ≡ none 75 → s ≡ none 75
+  unfolding pow
+  shift-nil s e =
+      let M = modG F A in
+      let all : F .n ≡ suc (F .n - 1) = omega (arith, A .many) in
+      sym (shifts-round s) ∙ ap (λ (k : ℕ). pow M k s) all ∙ sym (pow-X M (F .n - 1) s) ∙ ap (pow M (F .n - 1)) e ∙ pow-nil M (F .n - 1)
+
+  -- and so do i shifts
+  shifts-nil : (i : ℕ) (s : Reg 75) → pow (modG F A) i s ≡ none 75 → s ≡ none 75
+  unfolding pow
+  shifts-nil zero s e = e
+  shifts-nil (suc i) s e = shifts-nil i s (shift-nil (pow (modG F A) i s) e)
+
+  -- at most 75 coefficients that leave 0 by g are 0
+  short-nil : (x : List ℕ) → Bits x → length x ≤ 75 → remG F A x ≡ none 75 → x ≡ zeros (length x)
+  short-nil x h few e =
+      let k : ℕ = 75 - length x in
+      let padded : Reg 75 =
+      record {
+        of = zeros k ++ x;
+        bits = allBits-append (zeros k) x (bits-zeros k) h;
+        size = length-append (zeros k) x ∙ omega (arith, length-zeros k);
+      } in
+      let all : 75 ≡ k + length x = omega arith in
+      let is-nil : padded ≡ none 75 =
+      sym (rem-short 74 (gOf F) (A .g-degree) padded) ∙ zeros-front (modG F A) k x (one 74) ∙ e in
+      sym (drop-at (zeros k) x k (length-zeros k))
+      ∙ ap (drop k) (ap (λ (r : Reg 75). r .of) is-nil ∙ ap zeros all ∙ sym (replicate-append-replicate k (length x) 0))
+      ∙ drop-at (zeros k) (zeros (length x)) k (length-zeros k)
+
+  -- at most 75 coefficients between zeros, where g divides the whole, are 0
+  pub middle-nil : (a i : ℕ) (x : List ℕ) → Bits x → length x ≤ 75 → remG F A (zeros a ++ (x ++ zeros i)) ≡ none 75 → x ≡ zeros (length x)
+  middle-nil a i x h few e =
+      let M = modG F A in
+      short-nil x h few
+      (shifts-nil i (remG F A x)
+      (sym (zeros-front M a (x ++ zeros i) (one 74) ∙ run-append M (one 74) (none 75) x (zeros i) ∙ zeros-back M (one 74) (remG F A x) i) ∙ e))
+
+  -- what g divides, as a register
+  divided-nil : (u : List ℕ) → Bits u → remainder (gOf F) u ≡ zeros 75 → remG F A u ≡ none 75
+  divided-nil u h e = same-bits (sym (remainder-is 74 (gOf F) (A .g-degree) u h) ∙ e)
+
+  -- two lists that g divides
+  pub divided-equal : (p x y q : List ℕ) → Bits (p ++ (x ++ q)) → Bits (p ++ (y ++ q)) → Bits x → Bits y → length x ≡ length y → length x ≤ 75
+      → remainder (gOf F) (p ++ (x ++ q)) ≡ zeros 75 → remainder (gOf F) (p ++ (y ++ q)) ≡ zeros 75 → x ≡ y
+  divided-equal p x y q hu hv hx hy l few d e =
+      let M = modG F A in
+      let u = p ++ (x ++ q) in
+      let v = p ++ (y ++ q) in
+      let same : length u ≡ length v = simp length-append (omega arith) in
+      let size = length-sum x y l in
+      let less : length (sum x y) ≤ 75 = omega arith in
+      let whole : remG F A (sum u v) ≡ none 75 =
+      times-sum M u v (one 74) same ∙ ap₂ (M .add) (divided-nil u hu d) (divided-nil v hv e) ∙ M .unit (none 75) in
+      sum-nothing x y hx hy l
+      (middle-nil (length p) (length q) (sum x y) (bits-sum x y) less (ap (remG F A) (sym (sum-middle p x y q l)) ∙ whole) ∙ ap zeros size)

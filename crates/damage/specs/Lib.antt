@@ -1,0 +1,2 @@
+-- Windows with damaged bits, and what the window calls answer to them.
+pub mod Bursts
