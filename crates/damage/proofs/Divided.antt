@@ -3,7 +3,7 @@
 -- coefficients is its own remainder. Assumes nothing.
 use Prim.Native.Nat.{ℕ, zero, suc, _+_, _-_, _≤_}
 use mathlib.Core.Path.{_≡_, refl, sym, ap, ap₂, _∙_}
-use mathlib.Core.List.{List, [], _∷_, _++_}
+use mathlib.Core.List.{List, _++_}
 use native.Mathlib.Omega.{arith}
 use lib.ListN.{length, drop, length-append, replicate-append-replicate}
 use lib.Seq.{drop-at}
@@ -54,6 +54,12 @@ module _ (F : Numbers) (A : Facts F) where
   shifts-nil zero s e = e
   shifts-nil (suc i) s e = shifts-nil i s (shift-nil (pow (modG F A) i s) e)
 
+  -- zeros behind x shift its register: what g divides with them, it divides without
+  behind-nil : (i : ℕ) (x : List ℕ) → remG F A (x ++ zeros i) ≡ none 75 → remG F A x ≡ none 75
+  behind-nil i x e =
+      let M = modG F A in
+      shifts-nil i (remG F A x) (sym (run-append M (one 74) (none 75) x (zeros i) ∙ zeros-back M (one 74) (remG F A x) i) ∙ e)
+
   -- at most 75 coefficients that leave 0 by g are 0
   short-nil : (x : List ℕ) → Bits x → length x ≤ 75 → remG F A x ≡ none 75 → x ≡ zeros (length x)
   short-nil x h few e =
@@ -72,16 +78,18 @@ module _ (F : Numbers) (A : Facts F) where
       ∙ drop-at (zeros k) (zeros (length x)) k (length-zeros k)
 
   -- at most 75 coefficients between zeros, where g divides the whole, are 0
-  pub middle-nil : (a i : ℕ) (x : List ℕ) → Bits x → length x ≤ 75 → remG F A (zeros a ++ (x ++ zeros i)) ≡ none 75 → x ≡ zeros (length x)
-  middle-nil a i x h few e =
-      let M = modG F A in
-      short-nil x h few
-      (shifts-nil i (remG F A x)
-      (sym (zeros-front M a (x ++ zeros i) (one 74) ∙ run-append M (one 74) (none 75) x (zeros i) ∙ zeros-back M (one 74) (remG F A x) i) ∙ e))
+  middle-nil : (a i : ℕ) (x : List ℕ) → Bits x → length x ≤ 75 → remG F A (zeros a ++ (x ++ zeros i)) ≡ none 75 → x ≡ zeros (length x)
+  middle-nil a i x h few e = short-nil x h few (behind-nil i x (sym (zeros-front (modG F A) a (x ++ zeros i) (one 74)) ∙ e))
 
   -- what g divides, as a register
-  divided-nil : (u : List ℕ) → Bits u → remainder (gOf F) u ≡ zeros 75 → remG F A u ≡ none 75
+  pub divided-nil : (u : List ℕ) → Bits u → remainder (gOf F) u ≡ zeros 75 → remG F A u ≡ none 75
   divided-nil u h e = same-bits (sym (remainder-is 74 (gOf F) (A .g-degree) u h) ∙ e)
+
+  -- what g divides with zeros behind it, it divides
+  pub divided-front : (i : ℕ) (x : List ℕ) → Bits x → remainder (gOf F) (x ++ zeros i) ≡ zeros 75 → remainder (gOf F) x ≡ zeros 75
+  divided-front i x h e =
+      remainder-is 74 (gOf F) (A .g-degree) x h
+      ∙ ap (λ (r : Reg 75). r .of) (behind-nil i x (divided-nil (x ++ zeros i) (allBits-append x (zeros i) h (bits-zeros i)) e))
 
   -- two lists that g divides
   pub divided-equal : (p x y q : List ℕ) → Bits (p ++ (x ++ q)) → Bits (p ++ (y ++ q)) → Bits x → Bits y → length x ≡ length y → length x ≤ 75

@@ -7,56 +7,32 @@ use mathlib.Core.Path.{_≡_, refl, sym, ap, ap₂, subst, _∙_}
 use mathlib.Core.List.{List, _++_}
 use mathlib.Core.Logic.{_⊎_, inl, inr}
 use native.Mathlib.Omega.{arith}
-use lib.Dec.{T}
 use lib.ListN.{length, getD, take, drop, length-take, length-drop, take-append-drop}
-use lib.Seq.{getD-take, getD-drop}
+use lib.Seq.{getD-take}
 use Rattle.bits.specs.Bits.{allBits}
 use Rattle.bits.proofs.AllBits.{allBits-take, allBits-drop}
-use Rattle.bits.proofs.Equal.{same-true, other-same}
-use Rattle.bits.proofs.Tests.{is-true, holds}
+use Rattle.bits.proofs.Tests.{is-true}
 use Rattle.formats.specs.declared.format.Format.{Format}
 use Rattle.formats.specs.Numbers.{Numbers, numbersOf, windowBits, gOf}
 use Rattle.formats.proofs.Sizes.{Sizes, sizesOf}
 use Rattle.refusals.specs.declared.Refusal.the-variants.{EndsDiffer, NotDivisible}
-use Rattle.cyclic.specs.Check.{divisible}
+use Rattle.refusals.specs.Outcome.{outcome}
 use Rattle.cyclic.specs.Remainder.{remainder}
 use Rattle.cyclic.proofs.Laws.{Facts, Bits, zeros}
 use Rattle.cyclic.proofs.Formats.{factsOf}
-use Rattle.telegrams.proofs.WellFormed.{parts, but-words}
 use Rattle.reader.specs.declared.Asked.{Asked}
-use Rattle.reader.specs.declared.Asked.the-variants.{Proper, WellFormed}
+use Rattle.reader.specs.declared.ReadAnswer.the-variants.{Refused}
 use Rattle.reader.specs.Windows.{cut}
-use Rattle.reader.specs.CutFrom.{isAsked}
-use Rattle.reader.specs.Reads.{endsAgree, readBy}
-use Rattle.reader.proofs.AsAsked.{asked-tested}
+use Rattle.reader.specs.Reads.{endsAgree}
 use Rattle.reader.proofs.Ends.{ends-agree, ends-differ, ends-repeat}
-use Rattle.reader.proofs.Steps.{read-as, ends-refused, divisible-refused}
-use Rattle.reader.proofs.CutReads.{cut-found}
-use Rattle.damage.specs.Bursts.{Changed, Burst, AtEnds, refusedWith, BurstRefused, RefusesBursts, OneBurst}
+use Rattle.damage.specs.Bursts.{Changed, burstLimit, Burst, AtEnds, BurstRefused, RefusesBursts}
 use Rattle.damage.proofs.Divided.{divided-equal}
+use Rattle.damage.specs.Readers.{readWith, theTests}
+use Rattle.damage.proofs.Windows.{not-divided, Whole, repeated, cut-whole}
+use Rattle.damage.proofs.Readers.{given-5, given-6}
 use Rattle.damage.proofs.Places.{same-front, same-back, same-around}
 
--- what is used of a window cut from a telegram: the last r bits repeat the first r, and g divides the first n
-pub record Whole (F : Numbers) (w : List ℕ) : Type 0 where
-  pub size : length w ≡ windowBits F
-  pub bits : T (allBits w)
-  pub ends : drop (F .n) w ≡ take (F .r) w
-  pub divided : remainder (gOf F) (take (F .n) w) ≡ zeros 75
-
--- g divides v, or not
-divided-of : (F : Numbers) (v : List ℕ) → divisible F v ≡ true → remainder (gOf F) v ≡ zeros 75
-unfolding divisible
-divided-of F v e = same-true (remainder (gOf F) v) (zeros 75) e
-
-not-divided : (F : Numbers) (v : List ℕ) → (remainder (gOf F) v ≡ zeros 75 → ⊥) → divisible F v ≡ false
-unfolding divisible
-not-divided F v h = other-same (remainder (gOf F) v) (zeros 75) h
-
--- bits whose last r repeat the first r hold the same at i and at n + i
-repeated : (F : Numbers) (v : List ℕ) → drop (F .n) v ≡ take (F .r) v → (i : ℕ) → i < F .r → getD v (F .n + i) 0 ≡ getD v i 0
-repeated F v e i below = sym (getD-drop (F .n) v i 0) ∙ ap (λ (l : List ℕ). getD l i 0) e ∙ getD-take (F .r) v i 0 below
-
-module _ (F : Numbers) (S : Sizes F) (A : Facts F) (w v : List ℕ) (whole : Whole F w) (burst : Burst 75 w v) where
+module _ (F : Numbers) (S : Sizes F) (A : Facts F) (w v : List ℕ) (whole : Whole F w) (burst : Burst burstLimit w v) where
   -- ---- the ends
 
   -- a burst does not change both places of a pair
@@ -98,18 +74,18 @@ module _ (F : Numbers) (S : Sizes F) (A : Facts F) (w v : List ℕ) (whole : Who
       let i = burst .from in
       let size : length (front v) ≡ length (front w) = simp length-take (omega (arith, burst .size)) in
       let p = take i (front w) in
-      let q = drop (i + 75) (front w) in
-      let x = take 75 (drop i (front v)) in
-      let y = take 75 (drop i (front w)) in
-      let damaged : front v ≡ p ++ (x ++ q) = same-around (front w) (front v) size i 75 (λ j c. burst .within j (front-changed j c)) in
-      let true-one : front w ≡ p ++ (y ++ q) = same-around (front w) (front w) refl i 75 (λ j c. absurd (c .1 refl)) in
+      let q = drop (i + burstLimit) (front w) in
+      let x = take burstLimit (drop i (front v)) in
+      let y = take burstLimit (drop i (front w)) in
+      let damaged : front v ≡ p ++ (x ++ q) = same-around (front w) (front v) size i burstLimit (λ j c. burst .within j (front-changed j c)) in
+      let true-one : front w ≡ p ++ (y ++ q) = same-around (front w) (front w) refl i burstLimit (λ j c. absurd (c .1 refl)) in
       let v-bits = allBits-take (F .n) v (burst .bits) in
       let w-bits = allBits-take (F .n) w (whole .bits) in
       let as-long : length x ≡ length y = simp (length-take, length-drop) (omega (arith, size)) in
       let few : length x ≤ 75 = simp length-take (omega arith) in
       let middle : x ≡ y =
       divided-equal F A p x y q (subst Bits damaged v-bits) (subst Bits true-one w-bits)
-      (allBits-take 75 (drop i (front v)) (allBits-drop i (front v) v-bits)) (allBits-take 75 (drop i (front w)) (allBits-drop i (front w) w-bits))
+      (allBits-take burstLimit (drop i (front v)) (allBits-drop i (front v) v-bits)) (allBits-take burstLimit (drop i (front w)) (allBits-drop i (front w) w-bits))
       as-long few (ap (remainder (gOf F)) (sym damaged) ∙ d) (ap (remainder (gOf F)) (sym true-one) ∙ whole .divided) in
       damaged ∙ ap (λ (l : List ℕ). p ++ (l ++ q)) middle ∙ sym true-one
 
@@ -127,12 +103,12 @@ module _ (F : Numbers) (S : Sizes F) (A : Facts F) (w v : List ℕ) (whole : Who
         let equal : v ≡ w = sym (take-append-drop (F .n) v) ∙ ap₂ _++_ (front-same d) last ∙ take-append-drop (F .n) w in
         burst .changed .1 (ap (λ (l : List ℕ). getD l (burst .place) 0) equal)
 
--- ---- what a window call answers
+-- ---- what a reader answers that tests the ends and divides as the window calls do
 
-module _ (asked : Asked) (format : Format) (w v out : List ℕ) (whole : Whole (numbersOf format) w) (burst : Burst 75 w v)
+module _ (asked : Asked) (format : Format) (w v out : List ℕ) (whole : Whole (numbersOf format) w) (burst : Burst burstLimit w v)
     (room : numbersOf format .m ≤ length out) where
-  abbrev noEnds : Type 0
-  noEnds = (j : ℕ) → Changed w v j → AtEnds (numbersOf format) j → ⊥
+  abbrev NoneAtEnds : Type 0
+  NoneAtEnds = (j : ℕ) → Changed w v j → AtEnds (numbersOf format) j → ⊥
 
   size : length v ≡ windowBits (numbersOf format)
   size = burst .size ∙ whole .size
@@ -141,57 +117,39 @@ module _ (asked : Asked) (format : Format) (w v out : List ℕ) (whole : Whole (
   bits = is-true (allBits v) (burst .bits)
 
   -- 5 where the ends differ
-  refused-ends : endsAgree (numbersOf format) v ≡ false → readBy asked v out ≡ refusedWith EndsDiffer out
-  refused-ends e = read-as asked format v out size ∙ ends-refused asked format v out size bits room e
+  refused-5 : endsAgree (numbersOf format) v ≡ false → readWith theTests asked v out ≡ outcome (Refused EndsDiffer) out
+  refused-5 differ = given-5 theTests asked format v out size bits room differ
 
   -- 6 where no bit of them is changed
-  refused-divided : noEnds → readBy asked v out ≡ refusedWith NotDivisible out
-  refused-divided none =
+  refused-6 : NoneAtEnds → readWith theTests asked v out ≡ outcome (Refused NotDivisible) out
+  refused-6 none =
       let F = numbersOf format in
       let S = sizesOf format in
       let A = factsOf format in
-      read-as asked format v out size
-      ∙ divisible-refused asked format v out size bits room (ends-agree F v (ends-same F S A w v whole burst none))
+      given-6 theTests asked format v out size bits room (ends-agree F v (ends-same F S A w v whole burst none))
       (not-divided F (take (F .n) v) (front-not-divided F S A w v whole burst none))
 
-  pub burst-refused : BurstRefused format w v out (readBy asked v out)
+  burst-refused : BurstRefused format w v out (readWith theTests asked v out)
   burst-refused =
       record {
         refused = by-ends (endsAgree (numbersOf format) v) refl;
-        withEnds = λ j c at. refused-ends (ends-differ (numbersOf format) v (λ e. unchanged-ends e j c at));
-        withoutEnds = refused-divided;
+        withEnds = λ j c at. refused-5 (ends-differ (numbersOf format) v (λ e. unchanged-ends e j c at));
+        withoutEnds = refused-6;
       }
     where
-      unchanged-ends : drop (numbersOf format .n) v ≡ take (numbersOf format .r) v → noEnds
+      unchanged-ends : drop (numbersOf format .n) v ≡ take (numbersOf format .r) v → NoneAtEnds
       unchanged-ends = ends-unchanged (numbersOf format) (sizesOf format) (factsOf format) w v whole burst
 
       by-ends : (t : Bool) → endsAgree (numbersOf format) v ≡ t
-          → (readBy asked v out ≡ refusedWith EndsDiffer out) ⊎ (readBy asked v out ≡ refusedWith NotDivisible out)
-      by-ends true e = inr (refused-divided (unchanged-ends (ends-repeat (numbersOf format) v e)))
-      by-ends false e = inl (refused-ends e)
+          → (readWith theTests asked v out ≡ outcome (Refused EndsDiffer) out) ⊎ (readWith theTests asked v out ≡ outcome (Refused NotDivisible) out)
+      by-ends true e = inr (refused-6 (unchanged-ends (ends-repeat (numbersOf format) v e)))
+      by-ends false e = inl (refused-5 e)
 
--- a window cut from a telegram that is well-formed, or proper
-pub cut-whole : (asked : Asked) (format : Format) (b : List ℕ) → T (isAsked asked format b) → (t : ℕ) → t < numbersOf format .n → (flipped : Bool)
-    → Whole (numbersOf format) (cut (windowBits (numbersOf format)) t flipped b)
-cut-whole asked format b h t below flipped =
-    let F = numbersOf format in
-    let w = cut (windowBits F) t flipped b in
-    let found = cut-found format b t flipped (but-words F b (parts F b (asked-tested asked format b .0 h .0))) below w refl in
-    record {
-      size = found .size;
-      bits = holds (allBits w) (found .bits);
-      ends = ends-repeat F w (found .ends);
-      divided = divided-of F (take (F .n) w) (found .divided);
-    }
+-- ---- of every window cut from a well-formed telegram, or a proper one
 
--- ---- the request
-
-refuses-bursts : (asked : Asked) → RefusesBursts (readBy asked)
+pub refuses-bursts : (asked : Asked) → RefusesBursts (readWith theTests asked)
 refuses-bursts asked =
     record {
       refuses = λ of format b h t below flipped v burst out room.
           burst-refused asked format (cut (windowBits (numbersOf format)) t flipped b) v out (cut-whole of format b h t below flipped) burst room;
     }
-
-pub one-burst : OneBurst
-one-burst = record { byRead = refuses-bursts Proper; byReadWellFormed = refuses-bursts WellFormed }

@@ -1,2 +1,3 @@
 -- Windows with damaged bits, and what the window calls answer to them.
 pub mod Bursts
+pub mod Readers

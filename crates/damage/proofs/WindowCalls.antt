@@ -1,0 +1,28 @@
+-- Both window calls are readers with the tests of `theTests`: so each refuses bursts of at most 75 bits (document 02, No. 8), and misses some
+-- of 76. Assumes nothing.
+use mathlib.Core.Path.{_≡_, refl, subst}
+use Rattle.reader.specs.declared.Asked.{Asked}
+use Rattle.reader.specs.declared.Asked.the-variants.{Proper, WellFormed}
+use Rattle.reader.specs.Reads.{readTable, readAs, readBy}
+use Rattle.damage.specs.Bursts.{RefusesBursts, OneBurst, MissesBursts, LongerBurst}
+use Rattle.damage.specs.Readers.{tableWith, readWith, theTests}
+use Rattle.damage.proofs.OneBurst.{refuses-bursts}
+use Rattle.damage.proofs.LongerBurst.{misses-bursts}
+
+pub the-tests : (asked : Asked) → readWith theTests asked ≡ readBy asked
+unfolding readWith tableWith readBy readAs readTable
+the-tests asked = refl
+
+pub one-burst : OneBurst
+one-burst =
+    record {
+      byRead = subst RefusesBursts (the-tests Proper) (refuses-bursts Proper);
+      byReadWellFormed = subst RefusesBursts (the-tests WellFormed) (refuses-bursts WellFormed);
+    }
+
+pub longer-burst : LongerBurst
+longer-burst =
+    record {
+      byRead = subst MissesBursts (the-tests Proper) (misses-bursts Proper);
+      byReadWellFormed = subst MissesBursts (the-tests WellFormed) (misses-bursts WellFormed);
+    }
