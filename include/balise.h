@@ -64,7 +64,9 @@ uint64_t balise_check(const uint8_t *telegram, size_t telegram_len);
  * Answer: number, format, BALISE_READ_FLIPPED, _B, _TURN and _ESB.
  * Refusals: 1, 2, 3, 5 to 12. Refusal 9 has the kind and the index of the first bad
  * word. With 10, 11 and 12 the telegram in the window is well-formed and not fit to
- * burn. */
+ * burn. A window of a well-formed telegram of which one or more bits are changed,
+ * all within 75 neighbouring ones, is refused with 5 or 6, by this call and the
+ * next. */
 uint64_t balise_read(const uint8_t *window, size_t window_len, uint8_t *output,
                      size_t output_len);
 

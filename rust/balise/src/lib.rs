@@ -265,7 +265,10 @@ pub fn check(telegram: &[u8]) -> Result<Format, Refusal> {
 ///
 /// Refuses with `Length`, `NotBit`, `OutputShort`, `EndsDiffer`, `NotDivisible`,
 /// `NoTurn`, `Control` and `NotWord`, and with `OffStep`, `Repeating` and
-/// `Thinned` where the telegram is well-formed and not fit to burn.
+/// `Thinned` where the telegram is well-formed and not fit to burn. A window of a
+/// well-formed telegram of which one or more bits are changed, all within 75
+/// neighbouring ones, is refused with `EndsDiffer` or `NotDivisible`, by this call
+/// and by [`read_well_formed`].
 pub fn read(window: &[u8], output: &mut [u8]) -> Result<Reading, Refusal> {
     answer(exported::balise_read, window, output).result(Answer::reading)
 }
