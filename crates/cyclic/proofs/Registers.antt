@@ -32,7 +32,7 @@ same-bits {n} {a} {b} p =
     }
 
 -- zeros on the right add nothing
-zeros-right : (v : List ℕ) (n : ℕ) → Bits v → length v ≡ n → sum v (zeros n) ≡ v
+pub zeros-right : (v : List ℕ) (n : ℕ) → Bits v → length v ≡ n → sum v (zeros n) ≡ v
 zeros-right v n b h = sum-comm v (zeros n) ∙ ap (λ (k : ℕ). sum (zeros k) v) (sym h) ∙ sum-zeros v b
 
 -- the first bit decides whether the divisor is added

@@ -2,7 +2,7 @@
 -- polynomial of degree at most 74; i shifts of a register by g, of which n do nothing, make only 0 to 0; and what has at most 75
 -- coefficients is its own remainder. Assumes nothing.
 use Prim.Native.Nat.{ℕ, zero, suc, _+_, _-_, _≤_}
-use mathlib.Core.Path.{_≡_, refl, sym, ap, ap₂, _∙_}
+use mathlib.Core.Path.{_≡_, sym, ap, ap₂, _∙_}
 use mathlib.Core.List.{List, _++_}
 use native.Mathlib.Omega.{arith}
 use lib.ListN.{length, drop, length-append, replicate-append-replicate}
@@ -11,25 +11,13 @@ use Rattle.bits.proofs.AllBits.{allBits-append}
 use Rattle.formats.specs.Polynomial.{sum}
 use Rattle.formats.specs.Numbers.{Numbers, gOf}
 use Rattle.cyclic.specs.Remainder.{remainder}
-use Rattle.cyclic.proofs.Lists.{Bits, zeros, length-zeros, bits-zeros, bits-sum, length-sum, sum-assoc, sum-comm, sum-zeros, sum-self, sum-append}
+use Rattle.cyclic.proofs.Lists.{Bits, zeros, length-zeros, bits-zeros, bits-sum, length-sum}
 use Rattle.cyclic.proofs.Space.{pow, pow-X, pow-nil, pow-times, times, times-sum, run-append, zeros-front, zeros-back}
 use Rattle.cyclic.proofs.Registers.{Reg, same-bits, remainder-is, one, none}
 use Rattle.cyclic.proofs.Quotients.{rem-short}
 use Rattle.cyclic.proofs.Facts.{Facts}
 use Rattle.cyclic.proofs.Cyclic.{g-divides, round-trip, modG, remG}
-
--- two lists of bits whose sum is 0 are equal
-sum-nothing : (x y : List ℕ) → Bits x → Bits y → length x ≡ length y → sum x y ≡ zeros (length x) → x ≡ y
-sum-nothing x y hx hy l e =
-    let k = length x in
-    sym (sum-zeros x hx) ∙ sum-comm (zeros k) x ∙ ap (sum x) (sym e) ∙ sym (sum-assoc x x y) ∙ ap (λ (u : List ℕ). sum u y) (sum-self x)
-    ∙ ap (λ (j : ℕ). sum (zeros j) y) l ∙ sum-zeros y hy
-
--- the sum of two lists that differ in a middle part only
-sum-middle : (p x y q : List ℕ) → length x ≡ length y → sum (p ++ (x ++ q)) (p ++ (y ++ q)) ≡ zeros (length p) ++ (sum x y ++ zeros (length q))
-sum-middle p x y q l =
-    sum-append p p (x ++ q) (y ++ q) refl
-    ∙ ap₂ _++_ (sum-self p) (sum-append x y q q l ∙ ap (λ (u : List ℕ). sum x y ++ u) (sum-self q))
+use Rattle.damage.proofs.Sums.{sum-nothing, sum-middle}
 
 module _ (F : Numbers) (A : Facts F) where
   -- n shifts do nothing to a register by g
@@ -54,11 +42,13 @@ module _ (F : Numbers) (A : Facts F) where
   shifts-nil zero s e = e
   shifts-nil (suc i) s e = shifts-nil i s (shift-nil (pow (modG F A) i s) e)
 
-  -- zeros behind x shift its register: what g divides with them, it divides without
+  -- zeros behind x shift its register
+  pub shifted : (i : ℕ) (x : List ℕ) → remG F A (x ++ zeros i) ≡ pow (modG F A) i (remG F A x)
+  shifted i x = let M = modG F A in run-append M (one 74) (none 75) x (zeros i) ∙ zeros-back M (one 74) (remG F A x) i
+
+  -- so what g divides with them, it divides without
   behind-nil : (i : ℕ) (x : List ℕ) → remG F A (x ++ zeros i) ≡ none 75 → remG F A x ≡ none 75
-  behind-nil i x e =
-      let M = modG F A in
-      shifts-nil i (remG F A x) (sym (run-append M (one 74) (none 75) x (zeros i) ∙ zeros-back M (one 74) (remG F A x) i) ∙ e)
+  behind-nil i x e = shifts-nil i (remG F A x) (sym (shifted i x) ∙ e)
 
   -- at most 75 coefficients that leave 0 by g are 0
   short-nil : (x : List ℕ) → Bits x → length x ≤ 75 → remG F A x ≡ none 75 → x ≡ zeros (length x)

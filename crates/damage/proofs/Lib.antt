@@ -1,6 +1,8 @@
--- `Divided` has what g divides and differs only within 75 places, `Places` lists compared place by place, `Windows` what a window cut from a
--- telegram has, `Readers` a reader with any tests for refusals 5 and 6. `OneBurst` proves the request, `LongerBurst` that a burst of 76 bits
--- may be missed.
+-- `Sums` has sums of lists, `Divided` what g divides and differs only within 75 places, `Places` lists compared place by place, `Windows` what
+-- a window cut from a telegram has, `Readers` a reader with any tests for refusals 5 and 6. `OneBurst` proves that bursts of 75 bits are
+-- refused by a reader with the tests of the window calls, `LongerBurst` that it misses some of 76, `WindowCalls` that the window calls are such
+-- readers, `WrongReaders` that readers with other tests are ruled out.
+pub mod Sums
 pub mod Divided
 pub mod Places
 pub mod Windows

@@ -1,9 +1,8 @@
 -- A burst of 76 bits that is refused neither with 5 nor with 6: g itself, added to the window behind the first r bits and before the
 -- repeat. The ends stay as they were, and g divides the first n bits as it did. Assumes nothing.
-use Prim.Native.Nat.{ℕ, zero, suc, _+_, _-_, _%_, _≤_, _<_}
-use mathlib.Core.Path.{_≡_, refl, sym, ap, ap₂, _∙_}
-use mathlib.Core.List.{List, [], _∷_, _++_, append-assoc}
-use native.Mathlib.Nat.{suc-inj}
+use Prim.Native.Nat.{ℕ, suc, _+_, _-_, _%_, _≤_, _<_}
+use mathlib.Core.Path.{_≡_, sym, ap, ap₂, _∙_}
+use mathlib.Core.List.{List, _∷_, _++_, append-assoc}
 use native.Mathlib.Omega.{arith}
 use lib.Dec.{T, lit≤}
 use lib.ListN.{length, getD, take, drop, length-append, length-take, length-drop, replicate-append-replicate}
@@ -15,9 +14,9 @@ use Rattle.formats.specs.declared.format.Format.the-variants.{Long, Short}
 use Rattle.formats.specs.Polynomial.{sum}
 use Rattle.formats.specs.Numbers.{Numbers, numbersOf, windowBits, gOf}
 use Rattle.cyclic.specs.Remainder.{remainder}
-use Rattle.cyclic.proofs.Lists.{Bits, zeros, length-zeros, bits-sum, length-sum, sum-comm, sum-zeros}
-use Rattle.cyclic.proofs.Space.{pow, pow-nil, times-sum, run-append, zeros-front, zeros-back}
-use Rattle.cyclic.proofs.Registers.{Reg, leading, remainder-is, one, none}
+use Rattle.cyclic.proofs.Lists.{zeros, length-zeros, bits-sum, length-sum}
+use Rattle.cyclic.proofs.Space.{pow, pow-nil, times-sum, zeros-front}
+use Rattle.cyclic.proofs.Registers.{Reg, zeros-right, leading, remainder-is, one, none}
 use Rattle.cyclic.proofs.Quotients.{rem-itself}
 use Rattle.cyclic.proofs.Facts.{Facts}
 use Rattle.cyclic.proofs.Cyclic.{modG, remG}
@@ -27,37 +26,11 @@ use Rattle.reader.specs.Windows.{cut}
 use Rattle.reader.proofs.Ends.{ends-agree}
 use Rattle.damage.specs.Bursts.{burstLimit, Burst, MissesBursts}
 use Rattle.damage.specs.Readers.{readWith, theTests}
-use Rattle.damage.proofs.Divided.{divided-nil}
+use Rattle.damage.proofs.Sums.{sum-take, sum-drop, getD-sum}
+use Rattle.damage.proofs.Divided.{shifted, divided-nil}
 use Rattle.damage.proofs.Places.{same-back, changed-after, changed-before}
 use Rattle.damage.proofs.Windows.{is-divided, cut-whole}
 use Rattle.damage.proofs.Readers.{neither}
-
--- ---- parts of a sum
-
-sum-take : (i : ℕ) (u v : List ℕ) → take i (sum u v) ≡ sum (take i u) (take i v)
-unfolding sum
-sum-take zero u v = refl
-sum-take (suc i) [] v = refl
-sum-take (suc i) (a ∷ u) [] = refl
-sum-take (suc i) (a ∷ u) (b ∷ v) = ap {B = List ℕ} (λ l. (a + b) % 2 ∷ l) (sum-take i u v)
-
-sum-drop : (i : ℕ) (u v : List ℕ) → length u ≡ length v → drop i (sum u v) ≡ sum (drop i u) (drop i v)
-unfolding sum
-sum-drop zero u v l = refl
-sum-drop (suc i) [] v l = refl
-sum-drop (suc i) (a ∷ u) [] l = absurd (omega arith)
-sum-drop (suc i) (a ∷ u) (b ∷ v) l = sum-drop i u v (suc-inj l)
-
-getD-sum : (u v : List ℕ) (j : ℕ) → length u ≡ length v → j < length u → getD (sum u v) j 0 ≡ (getD u j 0 + getD v j 0) % 2
-unfolding sum
-getD-sum [] v j l h = absurd (omega arith)
-getD-sum (a ∷ u) [] j l h = absurd (omega arith)
-getD-sum (a ∷ u) (b ∷ v) zero l h = refl
-getD-sum (a ∷ u) (b ∷ v) (suc j) l h = getD-sum u v j (suc-inj l) (omega arith)
-
--- zeros add nothing
-plus-zeros : (u : List ℕ) (k : ℕ) → Bits u → length u ≡ k → sum u (zeros k) ≡ u
-plus-zeros u k h l = sum-comm u (zeros k) ∙ ap (λ (j : ℕ). sum (zeros j) u) (sym l) ∙ sum-zeros u h
 
 -- ---- the burst
 
@@ -116,7 +89,7 @@ module _ (F : Numbers) (A : Facts F) (between : F .r + 76 ≤ F .n) where
   front-nil : remG F A toFront ≡ none 75
   front-nil =
       let M = modG F A in
-      run-append M (one 74) (none 75) start (zeros gap) ∙ zeros-back M (one 74) (remG F A start) gap
+      shifted F A gap start
       ∙ ap (pow M gap) (zeros-front M (F .r) (gOf F) (one 74) ∙ rem-itself 74 (gOf F) (A .g-degree)) ∙ pow-nil M gap
 
   module _ (w : List ℕ) (bits : T (allBits w)) (size : length w ≡ windowBits F) where
@@ -130,12 +103,12 @@ module _ (F : Numbers) (A : Facts F) (between : F .r + 76 ≤ F .n) where
     first-kept : take (F .r) longer ≡ take (F .r) w
     first-kept =
         sum-take (F .r) w toWindow ∙ ap (sum (take (F .r) w)) first-is
-        ∙ plus-zeros (take (F .r) w) (F .r) (allBits-take (F .r) w bits) (length-take (F .r) w ∙ omega (arith, between))
+        ∙ zeros-right (take (F .r) w) (F .r) (allBits-take (F .r) w bits) (length-take (F .r) w ∙ omega (arith, between))
 
     last-kept : drop (F .r + 76) longer ≡ drop (F .r + 76) w
     last-kept =
         sum-drop (F .r + 76) w toWindow fits ∙ ap (sum (drop (F .r + 76) w)) (drop-at start (zeros (gap + F .r)) (F .r + 76) length-start)
-        ∙ plus-zeros (drop (F .r + 76) w) (gap + F .r) (allBits-drop (F .r + 76) w bits) (length-drop (F .r + 76) w ∙ omega (arith, between))
+        ∙ zeros-right (drop (F .r + 76) w) (gap + F .r) (allBits-drop (F .r + 76) w bits) (length-drop (F .r + 76) w ∙ omega (arith, between))
 
     pub longer-burst : Burst (suc burstLimit) w longer
     longer-burst =

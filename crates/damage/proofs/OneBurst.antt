@@ -90,17 +90,20 @@ module _ (F : Numbers) (S : Sizes F) (A : Facts F) (w v : List ℕ) (whole : Who
       damaged ∙ ap (λ (l : List ℕ). p ++ (l ++ q)) middle ∙ sym true-one
 
   module _ (none : (j : ℕ) → Changed w v j → AtEnds F j → ⊥) where
-    -- where none of their bits is changed they agree
+    -- where none of their bits is changed the last r are the same
+    last-same : drop (F .n) v ≡ drop (F .n) w
+    last-same = same-back w v (burst .size) (F .n) (λ j past c. none j c (inr past))
+
+    -- the ends agree
     pub ends-same : drop (F .n) v ≡ take (F .r) v
     ends-same =
-        same-back w v (burst .size) (F .n) (λ j past c. none j c (inr past)) ∙ whole .ends
+        last-same ∙ whole .ends
         ∙ sym (same-front w v (burst .size) (F .r) (λ j below c. none j c (inl below)))
 
     -- and g does not divide the first n
     pub front-not-divided : remainder (gOf F) (front v) ≡ zeros 75 → ⊥
     front-not-divided d =
-        let last = same-back w v (burst .size) (F .n) (λ j past c. none j c (inr past)) in
-        let equal : v ≡ w = sym (take-append-drop (F .n) v) ∙ ap₂ _++_ (front-same d) last ∙ take-append-drop (F .n) w in
+        let equal : v ≡ w = sym (take-append-drop (F .n) v) ∙ ap₂ _++_ (front-same d) last-same ∙ take-append-drop (F .n) w in
         burst .changed .1 (ap (λ (l : List ℕ). getD l (burst .place) 0) equal)
 
 -- ---- what a reader answers that tests the ends and divides as the window calls do

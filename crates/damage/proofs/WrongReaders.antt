@@ -69,18 +69,19 @@ n = short .n
 abbrev final : ℕ
 final = n - 1
 
-abbrev window : ℕ → Bool → List ℕ
-window t flipped = cut (windowBits short) t flipped (telegram Short)
+-- cut at turn 0
+abbrev window : Bool → List ℕ
+window flipped = cut (windowBits short) 0 flipped (telegram Short)
 
-whole : (flipped : Bool) → Whole short (window 0 flipped)
+whole : (flipped : Bool) → Whole short (window flipped)
 whole flipped = cut-whole Proper Short (telegram Short) (ones-proper Short) 0 (lit< tt) flipped
 
 -- a reader whose two tests hold of the window with the bit at j changed
 missed : (tests : Tests) (asked : Asked) (flipped : Bool) (j : ℕ) → j < windowBits short
-    → tests .ends short (changedAt j (window 0 flipped)) ≡ true → tests .divided short (changedAt j (window 0 flipped)) ≡ true
+    → tests .ends short (changedAt j (window flipped)) ≡ true → tests .divided short (changedAt j (window flipped)) ≡ true
     → RefusesBursts (readWith tests asked) → ⊥
 missed tests asked flipped j inside e d refuses =
-    let w = window 0 flipped in
+    let w = window flipped in
     let v = changedAt j w in
     let out : List ℕ = replicate (short .m) 0 in
     let burst = single j w (whole flipped .bits) (omega (arith, whole flipped .size)) in
@@ -90,51 +91,51 @@ missed tests asked flipped j inside e d refuses =
 
 module _ (flipped : Bool) (j : ℕ) where
   -- the first i bits where j is not among them
-  front-kept : (i : ℕ) → i ≤ j → take i (changedAt j (window 0 flipped)) ≡ take i (window 0 flipped)
+  front-kept : (i : ℕ) → i ≤ j → take i (changedAt j (window flipped)) ≡ take i (window flipped)
   front-kept i past =
-      let w = window 0 flipped in
+      let w = window flipped in
       same-front w (changedAt j w) (length-set w j (1 - getD w j 0)) i (λ k below c. let e = only-there j w k c in omega arith)
 
   -- and those from i on
-  back-kept : (i : ℕ) → j < i → drop i (changedAt j (window 0 flipped)) ≡ drop i (window 0 flipped)
+  back-kept : (i : ℕ) → j < i → drop i (changedAt j (window flipped)) ≡ drop i (window flipped)
   back-kept i before =
-      let w = window 0 flipped in
+      let w = window flipped in
       same-back w (changedAt j w) (length-set w j (1 - getD w j 0)) i (λ k past c. let e = only-there j w k c in omega arith)
 
 -- ---- the ends are not tested: a change of the first bit of the repeat
 
 ends-untested : (asked : Asked) → RefusesBursts (readWith endsUntested asked) → ⊥
 ends-untested asked =
-    let w = window 0 false in
+    let w = window false in
     missed endsUntested asked false n (lit< tt) refl
     (is-divided short (take n (changedAt n w)) (ap (remainder (gOf short)) (front-kept false n n (lit≤ tt)) ∙ whole false .divided))
 
 -- ---- the first n bits are not divided, or not whole: a change of the last of them
 
 -- the ends agree all the same
-last-ends : (flipped : Bool) → endsAgree short (changedAt final (window 0 flipped)) ≡ true
+last-ends : (flipped : Bool) → endsAgree short (changedAt final (window flipped)) ≡ true
 last-ends flipped =
-    ends-agree short (changedAt final (window 0 flipped))
+    ends-agree short (changedAt final (window flipped))
     (back-kept flipped final n (lit< tt) ∙ whole flipped .ends ∙ sym (front-kept flipped final (short .r) (lit≤ tt)))
 
 any-remainder : (asked : Asked) → RefusesBursts (readWith anyRemainder asked) → ⊥
 any-remainder asked = missed anyRemainder asked false final (lit< tt) (last-ends false) refl
 
 -- upright or flipped, the last of the first n bits of a window is 0
-last-is-0 : (flipped : Bool) × (getD (window 0 flipped) final 0 ≡ 0)
+last-is-0 : (flipped : Bool) × (getD (window flipped) final 0 ≡ 0)
 unfolding cut
 last-is-0 = go (getD (around (windowBits short) 0 (telegram Short)) final 0) refl
   where
-    go : (x : ℕ) → getD (around (windowBits short) 0 (telegram Short)) final 0 ≡ x → (flipped : Bool) × (getD (window 0 flipped) final 0 ≡ 0)
+    go : (x : ℕ) → getD (around (windowBits short) 0 (telegram Short)) final 0 ≡ x → (flipped : Bool) × (getD (window flipped) final 0 ≡ 0)
     go zero e = (false, e)
     go (suc x) e =
         let inside : final < length (around (windowBits short) 0 (telegram Short)) = omega (arith, length-around (windowBits short) 0 (telegram Short)) in
         (true, getD-flip (around (windowBits short) 0 (telegram Short)) final inside ∙ ap (λ (y : ℕ). 1 - y) e ∙ omega arith)
 
 -- and g divides the others alone
-others-divided : (flipped : Bool) → getD (window 0 flipped) final 0 ≡ 0 → remainder (gOf short) (take final (window 0 flipped)) ≡ zeros 75
+others-divided : (flipped : Bool) → getD (window flipped) final 0 ≡ 0 → remainder (gOf short) (take final (window flipped)) ≡ zeros 75
 others-divided flipped last =
-    let w = window 0 flipped in
+    let w = window flipped in
     let inside : final < length w = omega (arith, whole flipped .size) in
     let parts : take n w ≡ take final w ++ zeros 1 =
     take-suc w final 0 inside ∙ ap (λ (x : ℕ). take final w ++ (x ∷ [])) last in
@@ -143,7 +144,7 @@ others-divided flipped last =
 part-divided : (asked : Asked) → RefusesBursts (readWith partDivided asked) → ⊥
 part-divided asked =
     let (flipped, last) = last-is-0 in
-    let v = changedAt final (window 0 flipped) in
+    let v = changedAt final (window flipped) in
     missed partDivided asked flipped final (lit< tt) (last-ends flipped)
     (is-divided short (take final v) (ap (remainder (gOf short)) (front-kept flipped final final (lit≤ tt)) ∙ others-divided flipped last))
 
