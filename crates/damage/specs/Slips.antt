@@ -1,0 +1,68 @@
+-- A recorder that slips: bits lost at one place of a window, or put in there, and what a window call answers. Refusal 5 (document 01) is
+-- `EndsDiffer`.
+-- Assumes nothing.
+use Prim.Native.Nat.{ℕ, _+_, _-_, _≤_, _<_}
+use mathlib.Core.Bool.{Bool}
+use mathlib.Core.List.{List, [], _∷_, _++_}
+use mathlib.Core.Path.{_≡_}
+use lib.Dec.{T}
+use lib.ListN.{length, take, drop}
+use Rattle.bits.specs.Bits.{allBits}
+use Rattle.formats.specs.declared.format.Format.{Format}
+use Rattle.formats.specs.Numbers.{numbersOf, windowBits}
+use Rattle.refusals.specs.declared.Refusal.the-variants.{EndsDiffer}
+use Rattle.refusals.specs.Outcome.{Outcome}
+use Rattle.reader.specs.declared.Asked.{Asked}
+use Rattle.reader.specs.declared.ReadAnswer.{ReadAnswer}
+use Rattle.reader.specs.Windows.{cut}
+use Rattle.reader.specs.CutFrom.{isAsked}
+use Rattle.reader.specs.Reads.{readOf, readWellFormedOf}
+use Rattle.damage.specs.Answers.{RefusedWith}
+
+-- ---- what a slip is
+
+-- the most bits lost or put in at once that are surely noticed
+abbrev pub slipLimit : ℕ
+slipLimit = 4
+
+-- how far from either edge of the window the slip must be: as many bits of the window with the slipped ones counted in
+abbrev pub slipReach : ℕ
+slipReach = 21
+
+-- v is a window of size bits, taken while the size + s bits of x were sent: s bits were lost, from the place `place` on
+pub record Lost (size s : ℕ) (x v : List ℕ) : Type 0 where
+  pub place : ℕ
+  pub before : slipReach ≤ place + s
+  pub after : slipReach + place ≤ size + s
+  pub window : v ≡ take place x ++ drop (place + s) x
+
+-- v is a window of size bits, taken while the size - s bits of x were sent: s bits, of any values, were put in at the place `place`
+pub record PutIn (size s : ℕ) (x v : List ℕ) : Type 0 where
+  pub place : ℕ
+  pub before : slipReach ≤ place + s
+  pub after : slipReach + place ≤ size
+  pub values : List ℕ
+  pub many : length values ≡ s
+  pub bits : T (allBits values)
+  pub window : v ≡ take place x ++ (values ++ drop place x)
+
+-- ---- what is answered
+
+-- what is asked of a window call: a window of the set length from a well-formed telegram, or a proper one, upright or flipped, at any turn,
+-- with 1 to 4 bits lost at one place, or put in: refused with 5
+pub record RefusesSlips (read : List ℕ → List ℕ → Outcome ReadAnswer) : Type 0 where
+  pub lost : (asked : Asked) (format : Format) (b : List ℕ) → T (isAsked asked format b)
+      → (t : ℕ) → t < numbersOf format .n → (flipped : Bool)
+      → (s : ℕ) → 1 ≤ s → s ≤ slipLimit
+      → (v : List ℕ) → Lost (windowBits (numbersOf format)) s (cut (windowBits (numbersOf format) + s) t flipped b) v
+      → (out : List ℕ) → RefusedWith (EndsDiffer ∷ []) format out (read v out)
+  pub putIn : (asked : Asked) (format : Format) (b : List ℕ) → T (isAsked asked format b)
+      → (t : ℕ) → t < numbersOf format .n → (flipped : Bool)
+      → (s : ℕ) → 1 ≤ s → s ≤ slipLimit
+      → (v : List ℕ) → PutIn (windowBits (numbersOf format)) s (cut (windowBits (numbersOf format) - s) t flipped b) v
+      → (out : List ℕ) → RefusedWith (EndsDiffer ∷ []) format out (read v out)
+
+-- of both window calls
+pub record Slips : Type 0 where
+  pub byRead : RefusesSlips readOf
+  pub byReadWellFormed : RefusesSlips readWellFormedOf
