@@ -3,11 +3,20 @@
 -- refused by a reader with the tests of the window calls, `LongerBurst` that it misses some of 76, `WindowCalls` that the window calls are such
 -- readers, `WrongReaders` that readers with other tests are ruled out.
 pub mod Sums
+pub mod Shifts
+pub mod Powers
+pub mod BoseRayChaudhuriHocquenghem
+pub mod Orders
+pub mod Roots
 pub mod Divided
+pub mod Distance
 pub mod Places
 pub mod Windows
 pub mod Readers
 pub mod OneBurst
+pub mod Unseen
 pub mod LongerBurst
+pub mod Scattered
+pub mod MoreScattered
 pub mod WindowCalls
 pub mod WrongReaders

@@ -1,12 +1,17 @@
--- Sums of lists of bits: their parts, and lists whose sum is 0. Assumes nothing.
+-- Sums of lists of bits: their parts, their ones, and lists whose sum is 0. Assumes nothing.
 use Prim.Native.Nat.{ℕ, zero, suc, _+_, _%_, _<_}
+use mathlib.Core.Bool.{Bool}
 use mathlib.Core.Path.{_≡_, refl, sym, ap, ap₂, _∙_}
 use mathlib.Core.List.{List, [], _∷_, _++_}
 use native.Mathlib.Nat.{suc-inj}
 use native.Mathlib.Omega.{arith}
+use borrow.Author.Tests.{eq-eqb}
+use lib.Dec.{eqb}
 use lib.ListN.{length, getD, take, drop}
+use Rattle.bits.specs.Differences.{countDiffering, differences}
+use Rattle.bits.proofs.AllBits.{allBits-head, allBits-tail}
 use Rattle.formats.specs.Polynomial.{sum}
-use Rattle.cyclic.proofs.Lists.{Bits, zeros, sum-assoc, sum-zeros, sum-self, sum-append}
+use Rattle.cyclic.proofs.Lists.{Bits, zeros, by-bit, bits-sum, sum-assoc, sum-zeros, sum-self, sum-append}
 use Rattle.cyclic.proofs.Registers.{zeros-right}
 
 -- the first i places of a sum
@@ -45,3 +50,47 @@ pub sum-middle : (p x y q : List ℕ) → length x ≡ length y → sum (p ++ (x
 sum-middle p x y q l =
     sum-append p p (x ++ q) (y ++ q) refl
     ∙ ap₂ _++_ (sum-self p) (sum-append x y q q l ∙ ap (λ (u : List ℕ). sum x y ++ u) (sum-self q))
+
+-- ---- how many ones
+
+-- how many coefficients are odd
+unfoldable pub ones : List ℕ → ℕ
+ones [] = 0
+ones (b ∷ v) = b % 2 + ones v
+
+-- bits without a one are zeros
+pub ones-none : (v : List ℕ) → Bits v → ones v ≡ 0 → v ≡ zeros (length v)
+unfolding ones
+ones-none [] h e = refl
+ones-none (b ∷ v) h e =
+    let small = allBits-head b v h in
+    let first : b ≡ 0 = omega arith in
+    ap₂ {C = List ℕ} (λ x r. x ∷ r) first (ones-none v (allBits-tail b v h) (omega arith))
+
+-- one place of two lists of bits
+one-place : (k a b : ℕ) → a < 2 → b < 2 → (a + b) % 2 % 2 + k ≡ countDiffering (eqb a b) k
+one-place k a b p q =
+    by-bit (λ (a : ℕ). (a + b) % 2 % 2 + k ≡ countDiffering (eqb a b) k)
+    (by-bit (λ (b : ℕ). (0 + b) % 2 % 2 + k ≡ countDiffering (eqb 0 b) k) (omega arith) (omega arith) b q)
+    (by-bit (λ (b : ℕ). (1 + b) % 2 % 2 + k ≡ countDiffering (eqb 1 b) k) (omega arith) (omega arith) b q) a p
+
+-- the ones of a sum are the places in which the two differ
+pub ones-sum : (u v : List ℕ) → Bits u → Bits v → ones (sum u v) ≡ differences u v
+unfolding ones sum differences
+ones-sum [] v hu hv = refl
+ones-sum (a ∷ u) [] hu hv = refl
+ones-sum (a ∷ u) (b ∷ v) hu hv =
+    ap (λ (k : ℕ). (a + b) % 2 % 2 + k) (ones-sum u v (allBits-tail a u hu) (allBits-tail b v hv))
+    ∙ one-place (differences u v) a b (allBits-head a u hu) (allBits-head b v hv)
+
+-- so what is added to bits changes as many places as it has ones
+pub differences-added : (w e : List ℕ) → Bits w → Bits e → length w ≡ length e → differences w (sum w e) ≡ ones e
+differences-added w e hw he l =
+    sym (ones-sum w (sum w e) hw (bits-sum w e))
+    ∙ ap ones (sym (sum-assoc w w e) ∙ ap (λ (u : List ℕ). sum u e) (sum-self w ∙ ap zeros l) ∙ sum-zeros e he)
+
+-- a list differs from itself in no place
+pub differences-self : (u : List ℕ) → differences u u ≡ 0
+unfolding differences
+differences-self [] = refl
+differences-self (a ∷ u) = ap (λ (t : Bool). countDiffering t (differences u u)) (eq-eqb a a refl) ∙ differences-self u

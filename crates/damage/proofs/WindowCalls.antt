@@ -1,13 +1,16 @@
--- Both window calls are readers with the tests of `theTests`: so each refuses bursts of at most 75 bits (document 02, No. 8), and misses some
--- of 76. Assumes nothing.
+-- Both window calls are readers with the tests of `theTests`: what is proved of such a reader holds of each. One burst is document 02, No. 8.
+-- Assumes nothing.
 use mathlib.Core.Path.{_≡_, refl, subst}
 use Rattle.reader.specs.declared.Asked.{Asked}
 use Rattle.reader.specs.declared.Asked.the-variants.{Proper, WellFormed}
 use Rattle.reader.specs.Reads.{readTable, readAs, readBy}
 use Rattle.damage.specs.Bursts.{RefusesBursts, OneBurst, MissesBursts, LongerBurst}
+use Rattle.damage.specs.Scattered.{RefusesScattered, ScatteredChanges, MissesScattered, MoreScattered}
 use Rattle.damage.specs.Readers.{tableWith, readWith, theTests}
 use Rattle.damage.proofs.OneBurst.{refuses-bursts}
 use Rattle.damage.proofs.LongerBurst.{misses-bursts}
+use Rattle.damage.proofs.Scattered.{refuses-scattered}
+use Rattle.damage.proofs.MoreScattered.{misses-scattered}
 
 pub the-tests : (asked : Asked) → readWith theTests asked ≡ readBy asked
 unfolding readWith tableWith readBy readAs readTable
@@ -25,4 +28,18 @@ longer-burst =
     record {
       byRead = subst MissesBursts (the-tests Proper) (misses-bursts Proper);
       byReadWellFormed = subst MissesBursts (the-tests WellFormed) (misses-bursts WellFormed);
+    }
+
+pub scattered-changes : ScatteredChanges
+scattered-changes =
+    record {
+      byRead = subst RefusesScattered (the-tests Proper) (refuses-scattered Proper);
+      byReadWellFormed = subst RefusesScattered (the-tests WellFormed) (refuses-scattered WellFormed);
+    }
+
+pub more-scattered : MoreScattered
+more-scattered =
+    record {
+      byRead = subst MissesScattered (the-tests Proper) (misses-scattered Proper);
+      byReadWellFormed = subst MissesScattered (the-tests WellFormed) (misses-scattered WellFormed);
     }

@@ -1,0 +1,114 @@
+-- Few changed bits, anywhere in a window: where the ends of the damaged window agree and g divides its first n bits, these are too near to
+-- the true ones to be others. Assumes nothing.
+use Prim.Native.Nat.{ℕ, _+_, _≤_, _<_}
+use mathlib.Core.Bool.{Bool, true, false}
+use mathlib.Core.Path.{_≡_, refl, sym, ap, ap₂, _∙_}
+use mathlib.Core.List.{List, [], _∷_, _++_}
+use mathlib.Core.Logic.{inl, inr}
+use native.Mathlib.Omega.{arith}
+use lib.Dec.{T, lit<}
+use lib.ListN.{length, take, drop, length-take, take-append-drop}
+use lib.Seq.{take-take, length-take-le}
+use Rattle.bits.specs.Bits.{allBits}
+use Rattle.bits.specs.Differences.{differences}
+use Rattle.bits.proofs.AllBits.{allBits-take}
+use Rattle.bits.proofs.Differences.{differences-cut}
+use Rattle.bits.proofs.Tests.{is-true}
+use Rattle.formats.specs.declared.format.Format.{Format}
+use Rattle.formats.specs.declared.format.Format.the-variants.{Long, Short}
+use Rattle.formats.specs.Numbers.{Numbers, long, short, numbersOf, windowBits, gOf}
+use Rattle.formats.proofs.Sizes.{Sizes, sizesOf}
+use Rattle.refusals.specs.declared.Refusal.{Refusal}
+use Rattle.refusals.specs.declared.Refusal.the-variants.{EndsDiffer, NotDivisible, NoTurn}
+use Rattle.cyclic.specs.declared.Turn.the-variants.{Nothing}
+use Rattle.cyclic.specs.Remainder.{remainder}
+use Rattle.cyclic.specs.Check.{divisible}
+use Rattle.cyclic.proofs.Laws.{Facts, zeros}
+use Rattle.cyclic.proofs.Formats.{factsOf}
+use Rattle.reader.specs.declared.Asked.{Asked}
+use Rattle.reader.specs.Windows.{oriented, cut}
+use Rattle.reader.specs.Reads.{endsAgree, turnFound}
+use Rattle.reader.proofs.Ends.{ends-repeat}
+use Rattle.damage.specs.Answers.{OneOf}
+use Rattle.damage.specs.Scattered.{scatterLimit, Scattered, RefusesScattered}
+use Rattle.damage.specs.Readers.{readWith, theTests}
+use Rattle.damage.proofs.Sums.{differences-self}
+use Rattle.damage.proofs.Roots.{Roots, rootsOf}
+use Rattle.damage.proofs.Distance.{near-equal}
+use Rattle.damage.proofs.Windows.{divided-of, Whole, cut-whole, rounds-whole, rounds-turn}
+use Rattle.damage.proofs.Readers.{given-5, given-6, given-7, refused-with}
+
+-- a window with at most d bits changed, that passes both tests, is the true one
+unchanged : (F : Numbers) → Sizes F → Facts F → (d : ℕ) → Roots F d → (w v : List ℕ) → Whole F w → (k : ℕ) → k ≤ d → Scattered k w v
+    → drop (F .n) v ≡ take (F .r) v → remainder (gOf F) (take (F .n) v) ≡ zeros 75 → v ≡ w
+unchanged F S A d R w v whole k few changed ends divided =
+    let n = F .n in
+    let r = F .r in
+    let near : differences (take n w) (take n v) ≤ d = omega (arith, differences-cut n w v, changed .changes) in
+    let size-w : length (take n w) ≡ n = length-take-le n w (omega (arith, whole .size)) in
+    let size-v : length (take n v) ≡ n = length-take-le n v (omega (arith, whole .size, changed .size)) in
+    let front : take n w ≡ take n v =
+    near-equal F A d R (take n w) (take n v) (allBits-take n w (whole .bits)) (allBits-take n v (changed .bits)) size-w size-v (whole .divided) divided near in
+    let first : take r v ≡ take r w =
+    sym (take-take r n v (S .r-within)) ∙ ap (take r) (sym front) ∙ take-take r n w (S .r-within) in
+    sym (take-append-drop n v) ∙ ap₂ _++_ (sym front) (ends ∙ first ∙ sym (whole .ends)) ∙ take-append-drop n w
+
+-- ---- what a reader answers that tests the ends and divides as the window calls do
+
+module _ (asked : Asked) (format : Format) (w v out : List ℕ) (whole : Whole (numbersOf format) w)
+    (k : ℕ) (few : k ≤ scatterLimit format) (changed : Scattered k w v) where
+  size : length v ≡ windowBits (numbersOf format)
+  size = changed .size ∙ whole .size
+
+  bits : allBits v ≡ true
+  bits = is-true (allBits v) (changed .bits)
+
+  -- 5, or 6, or what it answers where the two tests hold and nothing is changed
+  refused-or : (others : List Refusal) → numbersOf format .m ≤ length out
+      → (endsAgree (numbersOf format) v ≡ true → divisible (numbersOf format) (take (numbersOf format .n) v) ≡ true → v ≡ w
+      → OneOf others out (readWith theTests asked v out))
+      → OneOf (EndsDiffer ∷ NotDivisible ∷ others) out (readWith theTests asked v out)
+  refused-or others room same =
+      go (endsAgree (numbersOf format) v) refl (divisible (numbersOf format) (take (numbersOf format .n) v)) refl
+    where
+      go : (t : Bool) → endsAgree (numbersOf format) v ≡ t
+          → (u : Bool) → divisible (numbersOf format) (take (numbersOf format .n) v) ≡ u
+          → OneOf (EndsDiffer ∷ NotDivisible ∷ others) out (readWith theTests asked v out)
+      go false e u d = inl (given-5 theTests asked format v out size bits room e)
+      go true e false d = inr (inl (given-6 theTests asked format v out size bits room e d))
+      go true e true d =
+          let F = numbersOf format in
+          inr
+          (inr
+          (same e d
+          (unchanged F (sizesOf format) (factsOf format) (scatterLimit format) (rootsOf format) w v whole k few changed (ends-repeat F v e)
+          (divided-of F (take (F .n) v) d))))
+
+  -- where something is changed there is no other answer
+  changed-refused : 1 ≤ k → numbersOf format .m ≤ length out → OneOf (EndsDiffer ∷ NotDivisible ∷ []) out (readWith theTests asked v out)
+  changed-refused some room =
+      refused-or [] room (λ e d same. omega (arith, changed .changes, ap (differences w) same, differences-self w))
+
+  -- where the true window has no turn there is 7
+  unturned-refused : turnFound (numbersOf format) w ≡ Nothing → numbersOf format .m ≤ length out
+      → OneOf (EndsDiffer ∷ NotDivisible ∷ NoTurn ∷ []) out (readWith theTests asked v out)
+  unturned-refused none room =
+      refused-or (NoTurn ∷ []) room
+      (λ e d same. inl (given-7 theTests asked format v out size bits room e d (ap (turnFound (numbersOf format)) same ∙ none)))
+
+-- ---- of every window
+
+pub refuses-scattered : (asked : Asked) → RefusesScattered (readWith theTests asked)
+refuses-scattered asked =
+    record {
+      ofItsFormat = λ of format b h t below flipped k some few v changed out.
+          let w = cut (windowBits (numbersOf format)) t flipped b in
+          let whole = cut-whole of format b h t below flipped in
+          refused-with theTests asked format v out (size asked format w v out whole k few changed) (bits asked format w v out whole k few changed)
+          (EndsDiffer ∷ NotDivisible ∷ []) (changed-refused asked format w v out whole k few changed some);
+      longFromShort = λ of b h t below flipped k few v changed out.
+          let w = cut (windowBits long) t flipped b in
+          let whole = rounds-whole of b h t below flipped in
+          refused-with theTests asked Long v out (size asked Long w v out whole k few changed) (bits asked Long w v out whole k few changed)
+          (EndsDiffer ∷ NotDivisible ∷ NoTurn ∷ []) (unturned-refused asked Long w v out whole k few changed (rounds-turn of b h t below flipped));
+    }
