@@ -14,7 +14,7 @@ use Rattle.formats.specs.Numbers.{Numbers, gOf, fgOf}
 use Rattle.cyclic.specs.Remainder.{remainder}
 use Rattle.cyclic.proofs.Lists.{Bits, zeros, bits-sum, length-sum}
 use Rattle.cyclic.proofs.Space.{Space, times, pow, times-nil}
-use Rattle.cyclic.proofs.Registers.{Reg, same-bits, By, rem, remainder-is, one, none}
+use Rattle.cyclic.proofs.Registers.{Reg, same-bits, By, remainder-is, one, none}
 use Rattle.cyclic.proofs.Quotients.{quotient, whole}
 use Rattle.cyclic.proofs.Facts.{Facts}
 use Rattle.damage.proofs.Sums.{sum-nothing, ones, ones-none, ones-sum}

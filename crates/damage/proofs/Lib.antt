@@ -12,6 +12,7 @@ pub mod Divided
 pub mod Distance
 pub mod Places
 pub mod Windows
+pub mod Pairs
 pub mod Readers
 pub mod OneBurst
 pub mod Unseen

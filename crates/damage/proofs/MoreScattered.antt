@@ -9,7 +9,7 @@ use Rattle.bits.proofs.AllBits.{allBits-append}
 use Rattle.formats.specs.declared.format.Format.{Format}
 use Rattle.formats.specs.declared.format.Format.the-variants.{Long, Short}
 use Rattle.formats.specs.Polynomial.{polynomial, coefficientOf, coefficientsBelow, sum}
-use Rattle.formats.specs.Numbers.{long, short, numbersOf, windowBits, gOf}
+use Rattle.formats.specs.Numbers.{numbersOf, windowBits, gOf}
 use Rattle.cyclic.specs.Remainder.{step, remainderFrom, remainder}
 use Rattle.cyclic.proofs.Lists.{zeros, bits-zeros, bits-sum}
 use Rattle.reader.specs.declared.Asked.{Asked}

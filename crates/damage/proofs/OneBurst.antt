@@ -28,7 +28,8 @@ use Rattle.reader.proofs.Ends.{ends-agree, ends-differ, ends-repeat}
 use Rattle.damage.specs.Bursts.{Changed, burstLimit, Burst, AtEnds, BurstRefused, RefusesBursts}
 use Rattle.damage.proofs.Divided.{divided-equal}
 use Rattle.damage.specs.Readers.{readWith, theTests}
-use Rattle.damage.proofs.Windows.{not-divided, Whole, repeated, cut-whole}
+use Rattle.damage.proofs.Windows.{not-divided, Whole, cut-whole}
+use Rattle.damage.proofs.Pairs.{ends-paired}
 use Rattle.damage.proofs.Readers.{given-5, given-6}
 use Rattle.damage.proofs.Places.{same-front, same-back, same-around}
 
@@ -39,22 +40,14 @@ module _ (F : Numbers) (S : Sizes F) (A : Facts F) (w v : List ℕ) (whole : Who
   not-both : (i : ℕ) → Changed w v i → Changed w v (F .n + i) → ⊥
   not-both i here there = omega (arith, burst .within i here .0, burst .within (F .n + i) there .1, S .n-is)
 
-  -- where the ends agree it changes neither
-  not-first : drop (F .n) v ≡ take (F .r) v → (i : ℕ) → i < F .r → Changed w v i → ⊥
-  not-first e i below c =
-      let inside : F .n + i < length w = omega (arith, whole .size) in
-      not-both i c (inside, λ same. c .1 (sym (repeated F v e i below) ∙ same ∙ repeated F w (whole .ends) i below))
-
-  not-last : drop (F .n) v ≡ take (F .r) v → (i : ℕ) → i < F .r → Changed w v (F .n + i) → ⊥
-  not-last e i below c =
-      let inside : i < length w = omega (arith, whole .size) in
-      not-both i (inside, λ same. c .1 (repeated F v e i below ∙ same ∙ sym (repeated F w (whole .ends) i below))) c
-
+  -- so where the ends agree it changes neither
   pub ends-unchanged : drop (F .n) v ≡ take (F .r) v → (j : ℕ) → Changed w v j → AtEnds F j → ⊥
-  ends-unchanged e j c (inl below) = not-first e j below c
+  ends-unchanged e j c (inl below) = not-both j c (ends-paired F S w v whole (burst .size) e j below .0 c)
   ends-unchanged e j c (inr past) =
-      let place : j ≡ F .n + (j - F .n) = omega arith in
-      not-last e (j - F .n) (omega (arith, c .0, whole .size)) (subst (Changed w v) place c)
+      let i : ℕ = j - F .n in
+      let place : j ≡ F .n + i = omega arith in
+      let there = subst (Changed w v) place c in
+      not-both i (ends-paired F S w v whole (burst .size) e i (omega (arith, c .0, whole .size)) .1 there) there
 
   -- ---- the first n bits
 

@@ -1,41 +1,42 @@
 -- Few changed bits, anywhere in a window: where the ends of the damaged window agree and g divides its first n bits, these are too near to
 -- the true ones to be others. Assumes nothing.
-use Prim.Native.Nat.{ℕ, _+_, _≤_, _<_}
+use Prim.Native.Nat.{ℕ, _≤_}
 use mathlib.Core.Bool.{Bool, true, false}
 use mathlib.Core.Path.{_≡_, refl, sym, ap, ap₂, _∙_}
 use mathlib.Core.List.{List, [], _∷_, _++_}
 use mathlib.Core.Logic.{inl, inr}
 use native.Mathlib.Omega.{arith}
-use lib.Dec.{T, lit<}
-use lib.ListN.{length, take, drop, length-take, take-append-drop}
+use lib.ListN.{length, take, drop, take-append-drop}
 use lib.Seq.{take-take, length-take-le}
 use Rattle.bits.specs.Bits.{allBits}
 use Rattle.bits.specs.Differences.{differences}
 use Rattle.bits.proofs.AllBits.{allBits-take}
 use Rattle.bits.proofs.Differences.{differences-cut}
-use Rattle.bits.proofs.Tests.{is-true}
+use Rattle.bits.proofs.Tests.{is-true, is-false}
 use Rattle.formats.specs.declared.format.Format.{Format}
-use Rattle.formats.specs.declared.format.Format.the-variants.{Long, Short}
-use Rattle.formats.specs.Numbers.{Numbers, long, short, numbersOf, windowBits, gOf}
+use Rattle.formats.specs.declared.format.Format.the-variants.{Long}
+use Rattle.formats.specs.Numbers.{Numbers, long, numbersOf, windowBits, gOf}
 use Rattle.formats.proofs.Sizes.{Sizes, sizesOf}
-use Rattle.refusals.specs.declared.Refusal.{Refusal}
 use Rattle.refusals.specs.declared.Refusal.the-variants.{EndsDiffer, NotDivisible, NoTurn}
 use Rattle.cyclic.specs.declared.Turn.the-variants.{Nothing}
 use Rattle.cyclic.specs.Remainder.{remainder}
 use Rattle.cyclic.specs.Check.{divisible}
 use Rattle.cyclic.proofs.Laws.{Facts, zeros}
 use Rattle.cyclic.proofs.Formats.{factsOf}
+use Rattle.refusals.specs.Outcome.{outcome}
 use Rattle.reader.specs.declared.Asked.{Asked}
-use Rattle.reader.specs.Windows.{oriented, cut}
+use Rattle.reader.specs.declared.ReadAnswer.the-variants.{Refused}
+use Rattle.reader.specs.Windows.{cut}
 use Rattle.reader.specs.Reads.{endsAgree, turnFound}
-use Rattle.reader.proofs.Ends.{ends-repeat}
-use Rattle.damage.specs.Answers.{OneOf}
-use Rattle.damage.specs.Scattered.{scatterLimit, Scattered, RefusesScattered}
+use Rattle.reader.proofs.Ends.{ends-agree, ends-differ, ends-repeat}
+use Rattle.damage.specs.Answers.{OneOf, RefusedWith}
+use Rattle.damage.specs.Scattered.{scatterLimit, Scattered, ScatteredRefused, RefusesScattered}
 use Rattle.damage.specs.Readers.{readWith, theTests}
 use Rattle.damage.proofs.Sums.{differences-self}
 use Rattle.damage.proofs.Roots.{Roots, rootsOf}
 use Rattle.damage.proofs.Distance.{near-equal}
 use Rattle.damage.proofs.Windows.{divided-of, Whole, cut-whole, rounds-whole, rounds-turn}
+use Rattle.damage.proofs.Pairs.{ends-paired, paired-ends}
 use Rattle.damage.proofs.Readers.{given-5, given-6, given-7, refused-with}
 
 -- a window with at most d bits changed, that passes both tests, is the true one
@@ -63,38 +64,57 @@ module _ (asked : Asked) (format : Format) (w v out : List ℕ) (whole : Whole (
   bits : allBits v ≡ true
   bits = is-true (allBits v) (changed .bits)
 
-  -- 5, or 6, or what it answers where the two tests hold and nothing is changed
-  refused-or : (others : List Refusal) → numbersOf format .m ≤ length out
-      → (endsAgree (numbersOf format) v ≡ true → divisible (numbersOf format) (take (numbersOf format .n) v) ≡ true → v ≡ w
-      → OneOf others out (readWith theTests asked v out))
-      → OneOf (EndsDiffer ∷ NotDivisible ∷ others) out (readWith theTests asked v out)
-  refused-or others room same =
-      go (endsAgree (numbersOf format) v) refl (divisible (numbersOf format) (take (numbersOf format .n) v)) refl
+  -- 5 where the ends differ
+  refused-5 : numbersOf format .m ≤ length out → endsAgree (numbersOf format) v ≡ false → readWith theTests asked v out ≡ outcome (Refused EndsDiffer) out
+  refused-5 room e = given-5 theTests asked format v out size bits room e
+
+  -- both tests hold only where nothing is changed
+  same-of : endsAgree (numbersOf format) v ≡ true → divisible (numbersOf format) (take (numbersOf format .n) v) ≡ true → v ≡ w
+  same-of e d =
+      let F = numbersOf format in
+      unchanged F (sizesOf format) (factsOf format) (scatterLimit format) (rootsOf format) w v whole k few changed (ends-repeat F v e)
+      (divided-of F (take (F .n) v) d)
+
+  module _ (some : 1 ≤ k) where
+    -- so where something is, and the ends agree, g does not divide
+    divided-not : endsAgree (numbersOf format) v ≡ true → divisible (numbersOf format) (take (numbersOf format .n) v) ≡ false
+    divided-not e =
+        let t = divisible (numbersOf format) (take (numbersOf format .n) v) in
+        is-false t (λ d. omega (arith, changed .changes, ap (differences w) (same-of e (is-true t d)), differences-self w))
+
+    -- 6 where the ends agree
+    refused-6 : numbersOf format .m ≤ length out → endsAgree (numbersOf format) v ≡ true → readWith theTests asked v out ≡ outcome (Refused NotDivisible) out
+    refused-6 room e = given-6 theTests asked format v out size bits room e (divided-not e)
+
+    by-ends : numbersOf format .m ≤ length out → (t : Bool) → endsAgree (numbersOf format) v ≡ t
+        → OneOf (EndsDiffer ∷ NotDivisible ∷ []) out (readWith theTests asked v out)
+    by-ends room true e = inr (inl (refused-6 room e))
+    by-ends room false e = inl (refused-5 room e)
+
+    pub scattered-refused : ScatteredRefused format w v out (readWith theTests asked v out)
+    scattered-refused =
+        let F = numbersOf format in
+        let S = sizesOf format in
+        record {
+          refused = refused-with theTests asked format v out size bits (EndsDiffer ∷ NotDivisible ∷ []) (λ room. by-ends room (endsAgree F v) refl);
+          unpaired = λ room not. refused-5 room (ends-differ F v (λ e. not (ends-paired F S w v whole (changed .size) e)));
+          paired = λ room all. refused-6 room (ends-agree F v (paired-ends F S w v whole (changed .size) (changed .bits) all));
+        }
+
+  -- where the true window has no turn there is 7 beside
+  unturned-refused : turnFound (numbersOf format) w ≡ Nothing
+      → RefusedWith (EndsDiffer ∷ NotDivisible ∷ NoTurn ∷ []) format out (readWith theTests asked v out)
+  unturned-refused none =
+      refused-with theTests asked format v out size bits (EndsDiffer ∷ NotDivisible ∷ NoTurn ∷ [])
+      (λ room. by-tests room (endsAgree (numbersOf format) v) refl (divisible (numbersOf format) (take (numbersOf format .n) v)) refl)
     where
-      go : (t : Bool) → endsAgree (numbersOf format) v ≡ t
+      by-tests : numbersOf format .m ≤ length out → (t : Bool) → endsAgree (numbersOf format) v ≡ t
           → (u : Bool) → divisible (numbersOf format) (take (numbersOf format .n) v) ≡ u
-          → OneOf (EndsDiffer ∷ NotDivisible ∷ others) out (readWith theTests asked v out)
-      go false e u d = inl (given-5 theTests asked format v out size bits room e)
-      go true e false d = inr (inl (given-6 theTests asked format v out size bits room e d))
-      go true e true d =
-          let F = numbersOf format in
-          inr
-          (inr
-          (same e d
-          (unchanged F (sizesOf format) (factsOf format) (scatterLimit format) (rootsOf format) w v whole k few changed (ends-repeat F v e)
-          (divided-of F (take (F .n) v) d))))
-
-  -- where something is changed there is no other answer
-  changed-refused : 1 ≤ k → numbersOf format .m ≤ length out → OneOf (EndsDiffer ∷ NotDivisible ∷ []) out (readWith theTests asked v out)
-  changed-refused some room =
-      refused-or [] room (λ e d same. omega (arith, changed .changes, ap (differences w) same, differences-self w))
-
-  -- where the true window has no turn there is 7
-  unturned-refused : turnFound (numbersOf format) w ≡ Nothing → numbersOf format .m ≤ length out
-      → OneOf (EndsDiffer ∷ NotDivisible ∷ NoTurn ∷ []) out (readWith theTests asked v out)
-  unturned-refused none room =
-      refused-or (NoTurn ∷ []) room
-      (λ e d same. inl (given-7 theTests asked format v out size bits room e d (ap (turnFound (numbersOf format)) same ∙ none)))
+          → OneOf (EndsDiffer ∷ NotDivisible ∷ NoTurn ∷ []) out (readWith theTests asked v out)
+      by-tests room false e u d = inl (refused-5 room e)
+      by-tests room true e false d = inr (inl (given-6 theTests asked format v out size bits room e d))
+      by-tests room true e true d =
+          inr (inr (inl (given-7 theTests asked format v out size bits room e d (ap (turnFound (numbersOf format)) (same-of e d) ∙ none))))
 
 -- ---- of every window
 
@@ -103,12 +123,8 @@ refuses-scattered asked =
     record {
       ofItsFormat = λ of format b h t below flipped k some few v changed out.
           let w = cut (windowBits (numbersOf format)) t flipped b in
-          let whole = cut-whole of format b h t below flipped in
-          refused-with theTests asked format v out (size asked format w v out whole k few changed) (bits asked format w v out whole k few changed)
-          (EndsDiffer ∷ NotDivisible ∷ []) (changed-refused asked format w v out whole k few changed some);
+          scattered-refused asked format w v out (cut-whole of format b h t below flipped) k few changed some;
       longFromShort = λ of b h t below flipped k few v changed out.
           let w = cut (windowBits long) t flipped b in
-          let whole = rounds-whole of b h t below flipped in
-          refused-with theTests asked Long v out (size asked Long w v out whole k few changed) (bits asked Long w v out whole k few changed)
-          (EndsDiffer ∷ NotDivisible ∷ NoTurn ∷ []) (unturned-refused asked Long w v out whole k few changed (rounds-turn of b h t below flipped));
+          unturned-refused asked Long w v out (rounds-whole of b h t below flipped) k few changed (rounds-turn of b h t below flipped);
     }

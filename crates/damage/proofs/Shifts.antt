@@ -1,5 +1,5 @@
 -- Shifts of a space: what some of them fix, and that where n of them do nothing, none makes anything but nil to nil. Assumes nothing.
-use Prim.Native.Nat.{ℕ, zero, suc, _+_, _-_, _*_, _/_, _%_, _<_}
+use Prim.Native.Nat.{ℕ, zero, suc, _-_, _*_, _/_, _%_, _<_}
 use mathlib.Core.Path.{_≡_, sym, ap, _∙_}
 use native.Mathlib.Nat.{mul-suc, mul-zero, mod-add-div}
 use native.Mathlib.Omega.{arith}

@@ -1,6 +1,6 @@
 -- Wrong readers do not refuse bursts: one that does not test the ends misses a change behind the first n bits; one that takes any remainder
 -- by g, or divides all but the last of the first n bits, misses a change of the last of them. Assumes nothing.
-use Prim.Native.Nat.{ℕ, zero, suc, _+_, _-_, _≤_, _<_}
+use Prim.Native.Nat.{ℕ, zero, suc, _-_, _≤_, _<_}
 use mathlib.Core.Bool.{Bool, true, false}
 use mathlib.Core.Path.{_≡_, refl, sym, ap, _∙_}
 use mathlib.Core.List.{List, [], _∷_, _++_}
