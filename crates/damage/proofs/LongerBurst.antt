@@ -94,38 +94,39 @@ module _ (F : Numbers) (A : Facts F) (between : F .r + 76 ≤ F .n) where
       ∙ ap (sum (drop i w)) (ap (drop i) window-is ∙ drop-at start (zeros (gap + F .r)) i length-start)
       ∙ zeros-right (drop i w) (gap + F .r) (allBits-drop i w (whole .bits)) size
 
--- so it is a burst of 76 bits
-module _ (format : Format) (w : List ℕ) (whole : Whole (numbersOf format) w) where
-  abbrev F : Numbers
-  F = numbersOf format
+-- of a format
+abbrev between-of : Format → List ℕ
+between-of format = g-between (numbersOf format) (factsOf format) (room-between format)
 
-  abbrev e : List ℕ
-  e = g-between F (factsOf format) (room-between format)
+abbrev unseen-of : (format : Format) → Unseen (numbersOf format) (between-of format)
+unseen-of format = g-unseen (numbersOf format) (factsOf format) (room-between format)
 
-  abbrev u : Unseen F e
-  u = g-unseen F (factsOf format) (room-between format)
-
-  longer-burst : Burst (suc burstLimit) w (added F e w)
-  longer-burst =
-      let between = room-between format in
-      let inside : F .r < length w = omega (arith, whole .size) in
-      let same = fits format e u w whole in
-      let kept = added-size format e u w whole in
-      record {
-        size = kept;
-        bits = bits-sum w (toWindow F e);
-        place = F .r;
-        changed = (
-          inside,
-          λ f. let other = getD-sum w (toWindow F e) (F .r) same inside ∙ ap (λ (x : ℕ). (getD w (F .r) 0 + x) % 2) (at-r F (factsOf format) between) in
-              omega (arith, allBits-getD w (F .r) (whole .bits)),
-        );
-        from = F .r;
-        within = λ j c. (
-          changed-after w (added F e w) kept (F .r) (first-kept format e u w whole) j c,
-          let near = changed-before w (added F e w) kept (F .r + 76) (behind-kept F (factsOf format) between w whole same) j c in omega arith,
-        );
-      }
+-- it makes a burst of 76 bits
+longer-burst : (format : Format) (w : List ℕ) → Whole (numbersOf format) w → Burst (suc burstLimit) w (added (numbersOf format) (between-of format) w)
+longer-burst format w whole =
+    let F = numbersOf format in
+    let A = factsOf format in
+    let between = room-between format in
+    let e = between-of format in
+    let u = unseen-of format in
+    let inside : F .r < length w = omega (arith, whole .size, between) in
+    let same = fits format e u w whole in
+    let kept = added-size format e u w whole in
+    record {
+      size = kept;
+      bits = bits-sum w (toWindow F e);
+      place = F .r;
+      changed = (
+        inside,
+        λ f. let other = getD-sum w (toWindow F e) (F .r) same inside ∙ ap (λ (x : ℕ). (getD w (F .r) 0 + x) % 2) (at-r F A between) in
+            omega (arith, allBits-getD w (F .r) (whole .bits)),
+      );
+      from = F .r;
+      within = λ j c. (
+        changed-after w (added F e w) kept (F .r) (first-kept format e u w whole) j c,
+        let near = changed-before w (added F e w) kept (F .r + 76) (behind-kept F A between w whole same) j c in omega arith,
+      );
+    }
 
 -- ---- what a reader answers that tests the ends and divides as the window calls do
 
@@ -134,6 +135,7 @@ misses-bursts asked =
     record {
       misses = λ of format b h t below flipped.
           let w = cut (windowBits (numbersOf format)) t flipped b in
+          let e = between-of format in
           let whole = cut-whole of format b h t below flipped in
-          (added (numbersOf format) (e format w whole) w, longer-burst format w whole, unseen format (e format w whole) (u format w whole) w whole asked);
+          (added (numbersOf format) e w, longer-burst format w whole, unseen format e (unseen-of format) w whole asked);
     }

@@ -40,9 +40,9 @@ use Rattle.damage.proofs.Pairs.{ends-paired, paired-ends}
 use Rattle.damage.proofs.Readers.{given-5, given-6, given-7, refused-with}
 
 -- a window with at most d bits changed, that passes both tests, is the true one
-unchanged : (F : Numbers) → Sizes F → Facts F → (d : ℕ) → Roots F d → (w v : List ℕ) → Whole F w → (k : ℕ) → k ≤ d → Scattered k w v
+passes-unchanged : (F : Numbers) → Sizes F → Facts F → (d : ℕ) → Roots F d → (w v : List ℕ) → Whole F w → (k : ℕ) → k ≤ d → Scattered k w v
     → drop (F .n) v ≡ take (F .r) v → remainder (gOf F) (take (F .n) v) ≡ zeros 75 → v ≡ w
-unchanged F S A d R w v whole k few changed ends divided =
+passes-unchanged F S A d R w v whole k few changed ends divided =
     let n = F .n in
     let r = F .r in
     let near : differences (take n w) (take n v) ≤ d = omega (arith, differences-cut n w v, changed .changes) in
@@ -72,7 +72,7 @@ module _ (asked : Asked) (format : Format) (w v out : List ℕ) (whole : Whole (
   same-of : endsAgree (numbersOf format) v ≡ true → divisible (numbersOf format) (take (numbersOf format .n) v) ≡ true → v ≡ w
   same-of e d =
       let F = numbersOf format in
-      unchanged F (sizesOf format) (factsOf format) (scatterLimit format) (rootsOf format) w v whole k few changed (ends-repeat F v e)
+      passes-unchanged F (sizesOf format) (factsOf format) (scatterLimit format) (rootsOf format) w v whole k few changed (ends-repeat F v e)
       (divided-of F (take (F .n) v) d)
 
   module _ (some : 1 ≤ k) where
