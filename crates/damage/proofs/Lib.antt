@@ -19,5 +19,9 @@ pub mod Unseen
 pub mod LongerBurst
 pub mod Scattered
 pub mod MoreScattered
+pub mod Stretches
+pub mod Periods
+pub mod Slips
+pub mod MoreSlips
 pub mod WindowCalls
 pub mod WrongReaders

@@ -105,12 +105,18 @@ module _ (tests : Tests) (asked : Asked) (w out : List ℕ) where
       let (is, some) = this-row refusalNumber (later-rise asked format (length out) w) f in
       not-true (tests .divided (numbersOf format) w) (is-true (not (tests .divided (numbersOf format) w)) some)
 
--- where both hold neither is given
-pub neither : (tests : Tests) (asked : Asked) (format : Format) (w out : List ℕ) → length w ≡ windowBits (numbersOf format)
-    → tests .ends (numbersOf format) w ≡ true → tests .divided (numbersOf format) w ≡ true
-    → (readWith tests asked w out ≡ outcome (Refused EndsDiffer) out → ⊥) × (readWith tests asked w out ≡ outcome (Refused NotDivisible) out → ⊥)
-neither tests asked format w out size e d =
-    let same = format-of format w size in (
-      λ a. let f = only-5 tests asked w out a in fails (tests .ends (numbersOf format) w) (rw same at f) (holds (tests .ends (numbersOf format) w) e),
-      λ a. let f = only-6 tests asked w out a in fails (tests .divided (numbersOf format) w) (rw same at f) (holds (tests .divided (numbersOf format) w) d),
-    )
+-- where a test holds its refusal is not given
+module _ (tests : Tests) (asked : Asked) (format : Format) (w out : List ℕ) (size : length w ≡ windowBits (numbersOf format)) where
+  pub never-5 : tests .ends (numbersOf format) w ≡ true → readWith tests asked w out ≡ outcome (Refused EndsDiffer) out → ⊥
+  never-5 e a =
+      let f = only-5 tests asked w out a in
+      fails (tests .ends (numbersOf format) w) (rw (format-of format w size) at f) (holds (tests .ends (numbersOf format) w) e)
+
+  pub never-6 : tests .divided (numbersOf format) w ≡ true → readWith tests asked w out ≡ outcome (Refused NotDivisible) out → ⊥
+  never-6 d a =
+      let f = only-6 tests asked w out a in
+      fails (tests .divided (numbersOf format) w) (rw (format-of format w size) at f) (holds (tests .divided (numbersOf format) w) d)
+
+  pub neither : tests .ends (numbersOf format) w ≡ true → tests .divided (numbersOf format) w ≡ true
+      → (readWith tests asked w out ≡ outcome (Refused EndsDiffer) out → ⊥) × (readWith tests asked w out ≡ outcome (Refused NotDivisible) out → ⊥)
+  neither e d = (never-5 e, never-6 d)

@@ -6,11 +6,14 @@ use Rattle.reader.specs.declared.Asked.the-variants.{Proper, WellFormed}
 use Rattle.reader.specs.Reads.{readTable, readAs, readBy}
 use Rattle.damage.specs.Bursts.{RefusesBursts, OneBurst, MissesBursts, LongerBurst}
 use Rattle.damage.specs.Scattered.{RefusesScattered, ScatteredChanges, MissesScattered, MoreScattered}
+use Rattle.damage.specs.Slips.{RefusesSlips, Slips, MissesSlips, MoreSlips}
 use Rattle.damage.specs.Readers.{tableWith, readWith, theTests}
 use Rattle.damage.proofs.OneBurst.{refuses-bursts}
 use Rattle.damage.proofs.LongerBurst.{misses-bursts}
 use Rattle.damage.proofs.Scattered.{refuses-scattered}
 use Rattle.damage.proofs.MoreScattered.{misses-scattered}
+use Rattle.damage.proofs.Slips.{refuses-slips}
+use Rattle.damage.proofs.MoreSlips.{misses-slips}
 
 pub the-tests : (asked : Asked) → readWith theTests asked ≡ readBy asked
 unfolding readWith tableWith readBy readAs readTable
@@ -42,4 +45,18 @@ more-scattered =
     record {
       byRead = subst MissesScattered (the-tests Proper) (misses-scattered Proper);
       byReadWellFormed = subst MissesScattered (the-tests WellFormed) (misses-scattered WellFormed);
+    }
+
+pub slips : Slips
+slips =
+    record {
+      byRead = subst RefusesSlips (the-tests Proper) (refuses-slips Proper);
+      byReadWellFormed = subst RefusesSlips (the-tests WellFormed) (refuses-slips WellFormed);
+    }
+
+pub more-slips : MoreSlips
+more-slips =
+    record {
+      byRead = subst MissesSlips (the-tests Proper) (misses-slips Proper);
+      byReadWellFormed = subst MissesSlips (the-tests WellFormed) (misses-slips WellFormed);
     }

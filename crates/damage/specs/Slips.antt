@@ -1,8 +1,8 @@
 -- A recorder that slips: bits lost at one place of a window, or put in there, and what a window call answers. Refusal 5 (document 01) is
 -- `EndsDiffer`.
 -- Assumes nothing.
-use Prim.Native.Nat.{ℕ, _+_, _-_, _≤_, _<_}
-use mathlib.Core.Bool.{Bool}
+use Prim.Native.Nat.{ℕ, suc, _+_, _-_, _≤_, _<_}
+use mathlib.Core.Bool.{Bool, false}
 use mathlib.Core.List.{List, [], _∷_, _++_}
 use mathlib.Core.Path.{_≡_}
 use lib.Dec.{T}
@@ -11,9 +11,11 @@ use Rattle.bits.specs.Bits.{allBits}
 use Rattle.formats.specs.declared.format.Format.{Format}
 use Rattle.formats.specs.Numbers.{numbersOf, windowBits}
 use Rattle.refusals.specs.declared.Refusal.the-variants.{EndsDiffer}
-use Rattle.refusals.specs.Outcome.{Outcome}
+use Rattle.refusals.specs.Outcome.{Outcome, outcome}
+use Rattle.telegrams.specs.Fields.{wellFormed}
 use Rattle.reader.specs.declared.Asked.{Asked}
 use Rattle.reader.specs.declared.ReadAnswer.{ReadAnswer}
+use Rattle.reader.specs.declared.ReadAnswer.the-variants.{Refused}
 use Rattle.reader.specs.Windows.{cut}
 use Rattle.reader.specs.CutFrom.{isAsked}
 use Rattle.reader.specs.Reads.{readOf, readWellFormedOf}
@@ -25,22 +27,24 @@ use Rattle.damage.specs.Answers.{RefusedWith}
 abbrev pub slipLimit : ℕ
 slipLimit = 4
 
--- how far from either edge of the window the slip must be: as many bits of the window with the slipped ones counted in
+-- how far from either edge of the window the slip must be: so many bits, the slipped ones counted in
 abbrev pub slipReach : ℕ
 slipReach = 21
 
--- v is a window of size bits, taken while the size + s bits of x were sent: s bits were lost, from the place `place` on
-pub record Lost (size s : ℕ) (x v : List ℕ) : Type 0 where
+-- v is a window of size bits, taken while the size + s bits of x were sent: s bits were lost, from the place `place` on; before it are place
+-- bits of the window, after it size - place
+pub record Lost (reach size s : ℕ) (x v : List ℕ) : Type 0 where
   pub place : ℕ
-  pub before : slipReach ≤ place + s
-  pub after : slipReach + place ≤ size + s
+  pub before : reach ≤ place + s
+  pub after : reach + place ≤ size + s
   pub window : v ≡ take place x ++ drop (place + s) x
 
--- v is a window of size bits, taken while the size - s bits of x were sent: s bits, of any values, were put in at the place `place`
-pub record PutIn (size s : ℕ) (x v : List ℕ) : Type 0 where
+-- v is a window of size bits, taken while the size - s bits of x were sent: s bits, of any values, were put in at the place `place`; before
+-- them are place bits of the window, after them size - s - place
+pub record PutIn (reach size s : ℕ) (x v : List ℕ) : Type 0 where
   pub place : ℕ
-  pub before : slipReach ≤ place + s
-  pub after : slipReach + place ≤ size
+  pub before : reach ≤ place + s
+  pub after : reach + place ≤ size
   pub values : List ℕ
   pub many : length values ≡ s
   pub bits : T (allBits values)
@@ -48,21 +52,47 @@ pub record PutIn (size s : ℕ) (x v : List ℕ) : Type 0 where
 
 -- ---- what is answered
 
+-- refused with 5
+abbrev pub SlipRefused : Format → List ℕ → Outcome ReadAnswer → Type 0
+SlipRefused format out answered = RefusedWith (EndsDiffer ∷ []) format out answered
+
 -- what is asked of a window call: a window of the set length from a well-formed telegram, or a proper one, upright or flipped, at any turn,
--- with 1 to 4 bits lost at one place, or put in: refused with 5
+-- with 1 to 4 bits lost at one place, or put in
 pub record RefusesSlips (read : List ℕ → List ℕ → Outcome ReadAnswer) : Type 0 where
   pub lost : (asked : Asked) (format : Format) (b : List ℕ) → T (isAsked asked format b)
       → (t : ℕ) → t < numbersOf format .n → (flipped : Bool)
       → (s : ℕ) → 1 ≤ s → s ≤ slipLimit
-      → (v : List ℕ) → Lost (windowBits (numbersOf format)) s (cut (windowBits (numbersOf format) + s) t flipped b) v
-      → (out : List ℕ) → RefusedWith (EndsDiffer ∷ []) format out (read v out)
+      → (v : List ℕ) → Lost slipReach (windowBits (numbersOf format)) s (cut (windowBits (numbersOf format) + s) t flipped b) v
+      → (out : List ℕ) → SlipRefused format out (read v out)
   pub putIn : (asked : Asked) (format : Format) (b : List ℕ) → T (isAsked asked format b)
       → (t : ℕ) → t < numbersOf format .n → (flipped : Bool)
       → (s : ℕ) → 1 ≤ s → s ≤ slipLimit
-      → (v : List ℕ) → PutIn (windowBits (numbersOf format)) s (cut (windowBits (numbersOf format) - s) t flipped b) v
-      → (out : List ℕ) → RefusedWith (EndsDiffer ∷ []) format out (read v out)
+      → (v : List ℕ) → PutIn slipReach (windowBits (numbersOf format)) s (cut (windowBits (numbersOf format) - s) t flipped b) v
+      → (out : List ℕ) → SlipRefused format out (read v out)
 
 -- of both window calls
 pub record Slips : Type 0 where
   pub byRead : RefusesSlips readOf
   pub byReadWellFormed : RefusesSlips readWellFormedOf
+
+-- ---- no more can be asked
+
+-- a window of a well-formed telegram with s bits lost, so far from either edge, that is not refused with 5, whatever is lent
+pub record MissesLost (read : List ℕ → List ℕ → Outcome ReadAnswer) (reach s : ℕ) : Type 0 where
+  pub format : Format
+  pub telegram : List ℕ
+  pub formed : T (wellFormed (numbersOf format) telegram)
+  pub turn : ℕ
+  pub below : turn < numbersOf format .n
+  pub v : List ℕ
+  pub lost : Lost reach (windowBits (numbersOf format)) s (cut (windowBits (numbersOf format) + s) turn false telegram) v
+  pub missed : (out : List ℕ) → read v out ≡ outcome (Refused EndsDiffer) out → ⊥
+
+-- with one bit more, or one bit nearer to an edge
+pub record MissesSlips (read : List ℕ → List ℕ → Outcome ReadAnswer) : Type 0 where
+  pub longer : MissesLost read slipReach (suc slipLimit)
+  pub nearer : MissesLost read (slipReach - 1) slipLimit
+
+pub record MoreSlips : Type 0 where
+  pub byRead : MissesSlips readOf
+  pub byReadWellFormed : MissesSlips readWellFormedOf
