@@ -1,22 +1,30 @@
--- `Sums` has sums of lists, `Divided` what g divides and differs only within 75 places, `Places` lists compared place by place, `Windows` what
--- a window cut from a telegram has, `Readers` a reader with any tests for refusals 5 and 6. `OneBurst` proves that bursts of 75 bits are
--- refused by a reader with the tests of the window calls, `LongerBurst` that it misses some of 76, `WindowCalls` that the window calls are such
--- readers, `WrongReaders` that readers with other tests are ruled out.
+-- For every kind of damage: `Sums` has sums of lists and their ones, `Places` lists compared place by place, `Windows` what a window cut from
+-- a telegram has, `Pairs` when the ends of a damaged window agree, `Readers` a reader with any tests for refusals 5 and 6, `Unseen` what both
+-- tests miss.
+-- Bursts: `Divided` has what g divides and differs only within 75 places, `OneBurst` proves that bursts of 75 bits are refused, `LongerBurst`
+-- that some of 76 are missed.
+-- Scattered changes: `Shifts` and `Powers` have shifts of any space, `BoseRayChaudhuriHocquenghem` the bound, `Orders` and `Roots` what it needs
+-- of each format's g, `Distance` that bits which g divides differ in many places, `Scattered` that few changes are refused, `MoreScattered`
+-- that one more is missed.
+-- Slips: `Stretches` has neighbouring elements of lists, `Periods` words in bits with a short period, `Slips` proves that lost bits and bits
+-- put in are refused, `MoreSlips` that one more is missed.
+-- These are proved of readers with the tests of the window calls; `WindowCalls` says that the window calls are such readers, `WrongReaders` that
+-- readers with other tests are ruled out.
 pub mod Sums
+pub mod Places
 pub mod Shifts
+pub mod Divided
+pub mod Windows
+pub mod Pairs
+pub mod Readers
+pub mod Unseen
+pub mod OneBurst
+pub mod LongerBurst
 pub mod Powers
 pub mod BoseRayChaudhuriHocquenghem
 pub mod Orders
 pub mod Roots
-pub mod Divided
 pub mod Distance
-pub mod Places
-pub mod Windows
-pub mod Pairs
-pub mod Readers
-pub mod OneBurst
-pub mod Unseen
-pub mod LongerBurst
 pub mod Scattered
 pub mod MoreScattered
 pub mod Stretches

@@ -1,13 +1,15 @@
--- One bit more lost, or one bit nearer to an edge: a short telegram in which 21 neighbouring bits have the period 5 and 20 have the period 4,
--- so that the ends agree although 5 bits, or 4, were lost there. Assumes nothing.
-use Prim.Native.Nat.{ℕ, suc, _+_, _-_, _<_}
-use mathlib.Core.Bool.{true, false}
-use mathlib.Core.Path.{_≡_, refl}
+-- One bit more lost, or one bit nearer to an edge: a short telegram in which 21 neighbouring bits have the period 5, 20 have the period 4 and 76
+-- have the period 11, so that the ends agree although 5 bits, or 4, or 11 were lost there. Assumes nothing.
+use Prim.Native.Nat.{ℕ, suc, _+_, _-_, _≤_, _<_}
+use mathlib.Core.Bool.{Bool, false, _&&_}
+use mathlib.Core.Path.{refl}
 use mathlib.Core.List.{List, _++_}
-use lib.Dec.{T, lit<, lit≤}
+use lib.Dec.{T, lit<, lit≤, eqb, eqb→eq}
 use lib.ListN.{length, take, drop}
 use Rattle.bits.specs.Bits.{allBits, same, numberFrom, bitsOf, around}
 use Rattle.bits.specs.Groups.{overGroups}
+use Rattle.bits.proofs.And.{and-left, and-right}
+use Rattle.bits.proofs.Tests.{is-true}
 use Rattle.formats.specs.declared.format.Format.the-variants.{Short}
 use Rattle.formats.specs.Polynomial.{sum, product, polynomial, coefficientOf, coefficientsBelow}
 use Rattle.formats.specs.Numbers.{short, windowBits, fOf, gOf, fgOf}
@@ -20,12 +22,12 @@ use Rattle.reader.specs.declared.Asked.{Asked}
 use Rattle.reader.specs.Windows.{cut}
 use Rattle.reader.specs.Reads.{endsAgree}
 use Rattle.damage.specs.Readers.{readWith, theTests}
-use Rattle.damage.specs.Slips.{slipLimit, slipReach, MissesLost, MissesSlips}
+use Rattle.damage.specs.Slips.{slipLimit, slipReach, farSlipLimit, farSlipReach, MissesLost, MissesSlips}
 use Rattle.damage.proofs.Readers.{never-5}
 
 -- the telegram
 unfoldable periodic : List ℕ
-periodic = bitsOf (short .n) 935045460342838729975159358782874971942778043939178091884533446142421637248170195517409757858853086211
+periodic = bitsOf (short .n) 3974307476195486211935176040816827831285633311929143026757069464705113862064316183899829075521119444293
 
 periodic-formed : T (wellFormed short periodic)
 unfolding periodic wellFormed controlOf checked allBits same numberFrom bitsOf overGroups isWord lookupOf lookupFrom table checkBits gPadded remainder remainderFrom step fgOf fOf gOf polynomial coefficientsBelow coefficientOf sum product
@@ -35,36 +37,45 @@ periodic-formed = tt
 abbrev without : ℕ → ℕ → ℕ → List ℕ
 without s q t = let x = cut (windowBits short + s) t false periodic in take q x ++ drop (q + s) x
 
--- from the place 86 of the telegram on 21 bits have the period 5, from 34 on 20 have the period 4
-five-lost : (length (without 5 16 86) ≡ windowBits short) × (endsAgree short (without 5 16 86) ≡ true)
-unfolding periodic bitsOf cut around endsAgree same
-five-lost = (refl, refl)
+-- it is one, and its ends agree
+abbrev agrees : ℕ → ℕ → ℕ → Bool
+agrees s q t = eqb (length (without s q t)) (windowBits short) && endsAgree short (without s q t)
 
-four-lost : (length (without 4 16 34) ≡ windowBits short) × (endsAgree short (without 4 16 34) ≡ true)
+-- so it is not refused with 5
+missed-at : (asked : Asked) (reach s q t : ℕ) → reach ≤ q + s → reach + q ≤ windowBits short + s → t < short .n → T (agrees s q t)
+    → MissesLost (readWith theTests asked) reach s
+missed-at asked reach s q t before after below h =
+    let v = without s q t in
+    let size = eqb→eq (length v) (windowBits short) (and-left (eqb (length v) (windowBits short)) (endsAgree short v) h) in
+    let ends = and-right (eqb (length v) (windowBits short)) (endsAgree short v) h in
+    record {
+      format = Short;
+      telegram = periodic;
+      formed = periodic-formed;
+      turn = t;
+      below = below;
+      v = v;
+      lost = record { place = q; before = before; after = after; window = refl };
+      missed = λ out. never-5 theTests asked Short v out size (is-true (endsAgree short v) ends);
+    }
+
+-- 21 bits have the period 5 from the place 42 of the telegram on, 20 have the period 4 from 12 on, and 76 have the period 11 from 66 on
+five-lost : T (agrees (suc slipLimit) 16 42)
 unfolding periodic bitsOf cut around endsAgree same
-four-lost = (refl, refl)
+five-lost = tt
+
+four-lost : T (agrees slipLimit 16 12)
+unfolding periodic bitsOf cut around endsAgree same
+four-lost = tt
+
+eleven-lost : T (agrees (suc farSlipLimit) 65 66)
+unfolding periodic bitsOf cut around endsAgree same
+eleven-lost = tt
 
 pub misses-slips : (asked : Asked) → MissesSlips (readWith theTests asked)
 misses-slips asked =
     record {
-      longer = record {
-        format = Short;
-        telegram = periodic;
-        formed = periodic-formed;
-        turn = 86;
-        below = lit< tt;
-        v = without (suc slipLimit) 16 86;
-        lost = record { place = 16; before = lit≤ tt; after = lit≤ tt; window = refl };
-        missed = λ out. never-5 theTests asked Short (without 5 16 86) out (five-lost .0) (five-lost .1);
-      };
-      nearer = record {
-        format = Short;
-        telegram = periodic;
-        formed = periodic-formed;
-        turn = 34;
-        below = lit< tt;
-        v = without slipLimit 16 34;
-        lost = record { place = 16; before = lit≤ tt; after = lit≤ tt; window = refl };
-        missed = λ out. never-5 theTests asked Short (without 4 16 34) out (four-lost .0) (four-lost .1);
-      };
+      longer = missed-at asked slipReach (suc slipLimit) 16 42 (lit≤ tt) (lit≤ tt) (lit< tt) five-lost;
+      nearer = missed-at asked (slipReach - 1) slipLimit 16 12 (lit≤ tt) (lit≤ tt) (lit< tt) four-lost;
+      farLonger = missed-at asked farSlipReach (suc farSlipLimit) 65 66 (lit≤ tt) (lit≤ tt) (lit< tt) eleven-lost;
     }

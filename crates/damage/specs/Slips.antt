@@ -23,13 +23,20 @@ use Rattle.damage.specs.Answers.{RefusedWith}
 
 -- ---- what a slip is
 
--- the most bits lost or put in at once that are surely noticed
+-- the most bits lost or put in at once that are surely noticed, and how far from either edge of the window the slip must be: so many bits, the
+-- slipped ones counted in
 abbrev pub slipLimit : ℕ
 slipLimit = 4
 
--- how far from either edge of the window the slip must be: so many bits, the slipped ones counted in
 abbrev pub slipReach : ℕ
 slipReach = 21
+
+-- the most, and how far from either edge, for a slip of more bits
+abbrev pub farSlipLimit : ℕ
+farSlipLimit = 10
+
+abbrev pub farSlipReach : ℕ
+farSlipReach = 76
 
 -- v is a window of size bits, taken while the size + s bits of x were sent: s bits were lost, from the place `place` on; before it are place
 -- bits of the window, after it size - place
@@ -57,23 +64,25 @@ abbrev pub SlipRefused : Format → List ℕ → Outcome ReadAnswer → Type 0
 SlipRefused format out answered = RefusedWith (EndsDiffer ∷ []) format out answered
 
 -- what is asked of a window call: a window of the set length from a well-formed telegram, or a proper one, upright or flipped, at any turn,
--- with 1 to 4 bits lost at one place, or put in
-pub record RefusesSlips (read : List ℕ → List ℕ → Outcome ReadAnswer) : Type 0 where
+-- with 1 to `limit` bits lost at one place, or put in
+pub record RefusesSlips (limit reach : ℕ) (read : List ℕ → List ℕ → Outcome ReadAnswer) : Type 0 where
   pub lost : (asked : Asked) (format : Format) (b : List ℕ) → T (isAsked asked format b)
       → (t : ℕ) → t < numbersOf format .n → (flipped : Bool)
-      → (s : ℕ) → 1 ≤ s → s ≤ slipLimit
-      → (v : List ℕ) → Lost slipReach (windowBits (numbersOf format)) s (cut (windowBits (numbersOf format) + s) t flipped b) v
+      → (s : ℕ) → 1 ≤ s → s ≤ limit
+      → (v : List ℕ) → Lost reach (windowBits (numbersOf format)) s (cut (windowBits (numbersOf format) + s) t flipped b) v
       → (out : List ℕ) → SlipRefused format out (read v out)
   pub putIn : (asked : Asked) (format : Format) (b : List ℕ) → T (isAsked asked format b)
       → (t : ℕ) → t < numbersOf format .n → (flipped : Bool)
-      → (s : ℕ) → 1 ≤ s → s ≤ slipLimit
-      → (v : List ℕ) → PutIn slipReach (windowBits (numbersOf format)) s (cut (windowBits (numbersOf format) - s) t flipped b) v
+      → (s : ℕ) → 1 ≤ s → s ≤ limit
+      → (v : List ℕ) → PutIn reach (windowBits (numbersOf format)) s (cut (windowBits (numbersOf format) - s) t flipped b) v
       → (out : List ℕ) → SlipRefused format out (read v out)
 
--- of both window calls
+-- of both window calls: 1 to 4 bits, and 1 to 10 farther from the edges
 pub record Slips : Type 0 where
-  pub byRead : RefusesSlips readOf
-  pub byReadWellFormed : RefusesSlips readWellFormedOf
+  pub byRead : RefusesSlips slipLimit slipReach readOf
+  pub byReadWellFormed : RefusesSlips slipLimit slipReach readWellFormedOf
+  pub farByRead : RefusesSlips farSlipLimit farSlipReach readOf
+  pub farByReadWellFormed : RefusesSlips farSlipLimit farSlipReach readWellFormedOf
 
 -- ---- no more can be asked
 
@@ -88,10 +97,11 @@ pub record MissesLost (read : List ℕ → List ℕ → Outcome ReadAnswer) (rea
   pub lost : Lost reach (windowBits (numbersOf format)) s (cut (windowBits (numbersOf format) + s) turn false telegram) v
   pub missed : (out : List ℕ) → read v out ≡ outcome (Refused EndsDiffer) out → ⊥
 
--- with one bit more, or one bit nearer to an edge
+-- with one bit more, or one bit nearer to an edge; with one bit more, far from both
 pub record MissesSlips (read : List ℕ → List ℕ → Outcome ReadAnswer) : Type 0 where
   pub longer : MissesLost read slipReach (suc slipLimit)
   pub nearer : MissesLost read (slipReach - 1) slipLimit
+  pub farLonger : MissesLost read farSlipReach (suc farSlipLimit)
 
 pub record MoreSlips : Type 0 where
   pub byRead : MissesSlips readOf
