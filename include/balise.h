@@ -64,9 +64,12 @@ uint64_t balise_check(const uint8_t *telegram, size_t telegram_len);
  * Answer: number, format, BALISE_READ_FLIPPED, _B, _TURN and _ESB.
  * Refusals: 1, 2, 3, 5 to 12. Refusal 9 has the kind and the index of the first bad
  * word. With 10, 11 and 12 the telegram in the window is well-formed and not fit to
- * burn. A window of a well-formed telegram of which one or more bits are changed,
- * all within 75 neighbouring ones, is refused with 5 or 6, by this call and the
- * next. */
+ * burn.
+ * Surely refused, by this call and the next: a window of a well-formed telegram of
+ * which one or more bits are changed, all within 75 neighbouring ones, or at most
+ * 14 anywhere (16 of a short window), with 5 or 6; one in which 1 to 4 bits were
+ * lost at one place or put in there, 21 bits or more from either edge, with 5.
+ * docs/DAMAGE.md has it all. */
 uint64_t balise_read(const uint8_t *window, size_t window_len, uint8_t *output,
                      size_t output_len);
 

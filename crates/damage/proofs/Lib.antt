@@ -6,8 +6,9 @@
 -- Scattered changes: `Shifts` and `Powers` have shifts of any space, `BoseRayChaudhuriHocquenghem` the bound, `Orders` and `Roots` what it needs
 -- of each format's g, `Distance` that bits which g divides differ in many places, `Scattered` that few changes are refused, `MoreScattered`
 -- that one more is missed.
--- Slips: `Stretches` has neighbouring elements of lists, `Periods` words in bits with a short period, `Slips` proves that lost bits and bits
--- put in are refused, `MoreSlips` that one more is missed.
+-- Slips: `Stretches` has neighbouring elements of lists, `Periods` words in bits with a short period, `Slipped` lost bits and bits put in as one
+-- kind, `Slips` proves that these are refused, `SlipsAnywhere` that near an edge they are refused or no damage, `MoreSlips` that one more is
+-- missed.
 -- These are proved of readers with the tests of the window calls; `WindowCalls` says that the window calls are such readers, `WrongReaders` that
 -- readers with other tests are ruled out.
 pub mod Sums
@@ -29,7 +30,9 @@ pub mod Scattered
 pub mod MoreScattered
 pub mod Stretches
 pub mod Periods
+pub mod Slipped
 pub mod Slips
+pub mod SlipsAnywhere
 pub mod MoreSlips
 pub mod WindowCalls
 pub mod WrongReaders

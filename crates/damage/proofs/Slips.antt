@@ -1,18 +1,16 @@
 -- A window with few bits lost at one place, or put in there, is refused with 5: if its ends agreed, bits before the slip would be the same as
 -- bits after it that stand as many places further on in the ring, or back, and so many of them that they hold words with this period.
 -- Assumes nothing.
-use Prim.Native.Nat.{ℕ, _+_, _-_, _≤_}
+use Prim.Native.Nat.{ℕ, _+_, _-_, _≤_, _<_}
 use mathlib.Core.Bool.{Bool}
-use mathlib.Core.Path.{_≡_, refl, sym, ap, _∙_}
-use mathlib.Core.List.{List, [], _∷_, _++_}
-use mathlib.Core.Logic.{_⊎_, inl, inr, ⊎-elim}
+use mathlib.Core.Path.{_≡_, sym, ap, _∙_}
+use mathlib.Core.List.{List, [], _∷_}
+use mathlib.Core.Logic.{inl, inr, ⊎-elim}
 use native.Mathlib.Omega.{arith}
 use lib.Dec.{T, lit≤}
-use lib.ListN.{length, take, drop, length-append, length-drop}
-use lib.Seq.{drop-append-add, drop-drop, length-take-le}
+use lib.ListN.{length, take, drop}
 use Rattle.bits.specs.Bits.{allBits, around}
-use Rattle.bits.proofs.AllBits.{allBits-nil, allBits-append, allBits-take, allBits-drop}
-use Rattle.bits.proofs.Ring.{length-around, allBits-around, around-period}
+use Rattle.bits.proofs.Ring.{around-period}
 use Rattle.bits.proofs.Tests.{is-true}
 use Rattle.formats.specs.declared.format.Format.{Format}
 use Rattle.formats.specs.declared.format.Format.the-variants.{Long, Short}
@@ -25,155 +23,42 @@ use Rattle.reader.specs.Windows.{oriented, cut}
 use Rattle.reader.specs.CutFrom.{isAsked}
 use Rattle.reader.proofs.AsAsked.{asked-tested}
 use Rattle.reader.proofs.Ends.{ends-differ}
-use Rattle.reader.proofs.Windows.{length-oriented, bits-oriented, cut-oriented}
+use Rattle.reader.proofs.Windows.{length-oriented}
 use Rattle.damage.specs.Readers.{readWith, theTests}
-use Rattle.damage.specs.Slips.{slipLimit, slipReach, farSlipLimit, farSlipReach, Lost, PutIn, SlipRefused, RefusesSlips}
+use Rattle.damage.specs.Slips.{slipLimit, slipReach, farSlipLimit, farSlipReach, SlipRefused, RefusesSlips}
 use Rattle.damage.proofs.Periods.{Rule, nearRule, farRule, apart-differ}
+use Rattle.damage.proofs.Slipped.{Slipped, lost-slipped, put-in-slipped, resumed, length-slipped, bits-slipped, stretch-before, repeat-after, length-stream, bits-stream, stretch-stream}
 use Rattle.damage.proofs.Readers.{given-5, refused-with}
-use Rattle.damage.proofs.Stretches.{stretch, stretch-append, stretch-take, stretch-around, stretch-repeated}
-
--- ---- a slip of either kind
-
--- v is a window of `size` bits: the first bits of x, others, and the bits of x from the place `next` on, which stand in v at s places less than
--- in x, or s places more
-record Slipped (reach size s : ℕ) (x v : List ℕ) : Type 0 where
-  first : ℕ
-  others : List ℕ
-  next : ℕ
-  window : v ≡ take first x ++ (others ++ drop next x)
-  bits : T (allBits others)
-  few : length others ≤ s
-  inside : first ≤ length x
-  whole : first + (length others + (length x - next)) ≡ size
-  before : reach ≤ first + s
-  after : reach + (first + length others) ≤ size + s
-  apart : (next ≡ first + length others + s) ⊎ (first + length others ≡ next + s)
-
--- bits were lost
-lost-slipped : (reach size s : ℕ) (x v : List ℕ) → s ≤ reach → length x ≡ size + s → Lost reach size s x v → Slipped reach size s x v
-lost-slipped reach size s x v small sent lost =
-    record {
-      first = lost .place;
-      others = [];
-      next = lost .place + s;
-      window = lost .window;
-      bits = allBits-nil;
-      few = omega arith;
-      inside = omega arith;
-      whole = omega arith;
-      before = lost .before;
-      after = omega arith;
-      apart = inl (omega arith);
-    }
-
--- or put in
-put-in-slipped : (reach size s : ℕ) (x v : List ℕ) → s ≤ reach → length x ≡ size - s → PutIn reach size s x v → Slipped reach size s x v
-put-in-slipped reach size s x v small sent put =
-    record {
-      first = put .place;
-      others = put .values;
-      next = put .place;
-      window = put .window;
-      bits = put .bits;
-      few = omega arith;
-      inside = omega arith;
-      whole = omega arith;
-      before = put .before;
-      after = omega arith;
-      apart = inr (omega arith);
-    }
-
-module _ (reach size s : ℕ) (x v : List ℕ) (slip : Slipped reach size s x v) where
-  -- v before the slip
-  abbrev front : List ℕ
-  front = take (slip .first) x
-
-  -- and from there on
-  abbrev back : List ℕ
-  back = slip .others ++ drop (slip .next) x
-
-  -- the place in v where the bits of x go on
-  abbrev resumed : ℕ
-  resumed = slip .first + length (slip .others)
-
-  length-front : length front ≡ slip .first
-  length-front = length-take-le (slip .first) x (slip .inside)
-
-  length-slipped : length v ≡ size
-  length-slipped = rw (slip .window) (simp (length-append, length-front, length-drop) (slip .whole))
-
-  bits-slipped : T (allBits x) → T (allBits v)
-  bits-slipped bits =
-      rw (slip .window)
-      (allBits-append front back (allBits-take (slip .first) x bits)
-      (allBits-append (slip .others) (drop (slip .next) x) (slip .bits) (allBits-drop (slip .next) x bits)))
-
-  -- bits before the slip
-  stretch-before : (i j : ℕ) → j + i ≤ slip .first → stretch i j v ≡ stretch i j x
-  stretch-before i j within =
-      ap (stretch i j) (slip .window) ∙ stretch-append i j front back (omega (arith, length-front))
-      ∙ stretch-take i j (slip .first) x within (slip .inside)
-
-  -- and bits after it
-  stretch-after : (i j : ℕ) → stretch i (slip .first + (length (slip .others) + j)) v ≡ stretch i (slip .next + j) x
-  stretch-after i j =
-      let places = length (slip .others) + j in
-      ap (stretch i (slip .first + places)) (slip .window)
-      ∙ ap (λ (k : ℕ). stretch i (k + places) (front ++ back)) (sym length-front)
-      ∙ ap (take i) (drop-append-add front back places ∙ drop-append-add (slip .others) (drop (slip .next) x) j ∙ drop-drop j (slip .next) x)
-
-  -- where the ends agree: the first bits that are repeated after the slip are the same as what repeats them
-  stretches-agree : s ≤ reach → (n r : ℕ) → size ≡ n + r → r ≤ n → reach ≤ r → drop n v ≡ take r v
-      → stretch (reach - s) (slip .next + (n - resumed)) x ≡ stretch (reach - s) (resumed - n) x
-  stretches-agree small n r all within repeats e =
-      let i : ℕ = reach - s in
-      let j : ℕ = resumed - n in
-      let place : slip .first + (length (slip .others) + (n - resumed)) ≡ n + j = omega arith in
-      sym (stretch-after i (n - resumed)) ∙ ap (λ (k : ℕ). stretch i k v) place
-      ∙ stretch-repeated n r i j v e (omega arith) (omega (arith, length-slipped)) ∙ stretch-before i j (omega arith)
-
--- ---- in bits of a telegram
 
 -- the slipped bits are fewer than those from an edge to them
 small : (limit reach : ℕ) → Rule limit reach → (s : ℕ) → s ≤ limit → s ≤ reach
 small limit reach rule s few = omega (arith, rule .short, rule .enough)
 
+-- ---- the ends
+
 module _ (F : Numbers) (S : Sizes F) (b : List ℕ) (form : WellFormed F b) (sent t : ℕ) (flipped : Bool) where
-  -- the telegram, upright or flipped, going round
-  abbrev ring : List ℕ
-  ring = oriented flipped b
-
-  -- the bits that were sent
-  abbrev stream : List ℕ
-  stream = cut sent t flipped b
-
-  stream-is : stream ≡ around sent t ring
-  stream-is = cut-oriented sent t flipped b (omega arith)
-
-  length-stream : length stream ≡ sent
-  length-stream = ap length stream-is ∙ length-around sent t ring
-
-  bits-stream : T (allBits stream)
-  bits-stream = rw stream-is (allBits-around sent t ring (bits-oriented flipped b (form .bits)))
-
-  stretch-stream : (i j : ℕ) → j + i ≤ sent → stretch i j stream ≡ around i (t + j) ring
-  stretch-stream i j within = ap (stretch i j) stream-is ∙ stretch-around i j sent t ring within
-
   -- the ends of a window with a slip do not agree
-  slip-ends : (limit reach : ℕ) → Rule limit reach → reach ≤ F .r → (s : ℕ) → 1 ≤ s → s ≤ limit
-      → (v : List ℕ) → Slipped reach (windowBits F) s stream v → drop (F .n) v ≡ take (F .r) v → ⊥
+  pub slip-ends : (limit reach : ℕ) → Rule limit reach → reach ≤ F .r → (s : ℕ) → 1 ≤ s → s ≤ limit
+      → (v : List ℕ) → Slipped reach (windowBits F) s (cut sent t flipped b) v → drop (F .n) v ≡ take (F .r) v → ⊥
   slip-ends limit reach rule repeats s some few v slip e =
+      let x = cut sent t flipped b in
+      let y = oriented flipped b in
       let i : ℕ = reach - s in
-      let m : ℕ = resumed reach (windowBits F) s stream v slip in
-      let before : ℕ = m - F .n in
-      let after : ℕ = slip .next + (F .n - m) in
-      let round : around i (t + before + F .n) ring ≡ around i (t + before) ring =
-      ap (λ (k : ℕ). around i (t + before + k) ring) (sym (length-oriented flipped b ∙ form .size)) ∙ around-period i (t + before) ring in
-      apart-differ F S b form limit reach rule s some few flipped (t + after) (t + before + F .n)
+      let m : ℕ = resumed reach (windowBits F) s x v slip in
+      let j : ℕ = m - F .n in
+      let after : ℕ = slip .next + (F .n + j - m) in
+      let held : 0 < length b = omega (arith, form .size, S .n-is) in
+      let size = length-stream b sent t flipped held in
+      let close = small limit reach rule s few in
+      let within = S .r-within in
+      let round : around i (t + j + F .n) y ≡ around i (t + j) y =
+      ap (λ (k : ℕ). around i (t + j + k) y) (sym (length-oriented flipped b ∙ form .size)) ∙ around-period i (t + j) y in
+      apart-differ F S b form limit reach rule s some few flipped (t + after) (t + j + F .n)
       (⊎-elim (λ h. inl (omega arith)) (λ h. inr (omega arith)) (slip .apart))
-      (sym (stretch-stream i after (omega (arith, length-stream)))
-      ∙ stretches-agree reach (windowBits F) s stream v slip (small limit reach rule s few) (F .n) (F .r) refl (S .r-within) repeats e
-      ∙ stretch-stream i before (omega (arith, length-stream)) ∙ sym round)
+      (sym (stretch-stream b sent t flipped held i after (omega arith))
+      ∙ repeat-after reach (windowBits F) s x v slip (F .n) (F .r) i j e (omega arith) (omega arith) (omega arith)
+      ∙ stretch-before reach (windowBits F) s x v slip i j (omega arith)
+      ∙ stretch-stream b sent t flipped held i j (omega arith) ∙ sym round)
 
 -- ---- what a reader answers that tests the ends as the window calls do
 
@@ -188,9 +73,10 @@ module _ (asked : Asked) (limit reach : ℕ) (rule : Rule limit reach) (repeats 
       let S = sizesOf format in
       let x = cut sent t flipped b in
       let form = parts F b (asked-tested of format b .0 h .0) in
-      let slip = make (length-stream F S b form sent t flipped) in
+      let held : 0 < length b = omega (arith, form .size, S .n-is) in
+      let slip = make (length-stream b sent t flipped held) in
       let size = length-slipped reach (windowBits F) s x v slip in
-      let bits = is-true (allBits v) (bits-slipped reach (windowBits F) s x v slip (bits-stream F S b form sent t flipped)) in
+      let bits = is-true (allBits v) (bits-slipped reach (windowBits F) s x v slip (bits-stream b sent t flipped held (form .bits))) in
       let differ = ends-differ F v (slip-ends F S b form sent t flipped limit reach rule (repeats format) s some few v slip) in
       refused-with theTests asked format v out size bits (EndsDiffer ∷ []) λ room. inl (given-5 theTests asked format v out size bits room differ)
 
@@ -213,7 +99,7 @@ near-repeated : (format : Format) → slipReach ≤ numbersOf format .r
 near-repeated Long = lit≤ tt
 near-repeated Short = lit≤ tt
 
-far-repeated : (format : Format) → farSlipReach ≤ numbersOf format .r
+pub far-repeated : (format : Format) → farSlipReach ≤ numbersOf format .r
 far-repeated Long = lit≤ tt
 far-repeated Short = lit≤ tt
 

@@ -6,13 +6,14 @@ use Rattle.reader.specs.declared.Asked.the-variants.{Proper, WellFormed}
 use Rattle.reader.specs.Reads.{readTable, readAs, readBy}
 use Rattle.damage.specs.Bursts.{RefusesBursts, OneBurst, MissesBursts, LongerBurst}
 use Rattle.damage.specs.Scattered.{RefusesScattered, ScatteredChanges, MissesScattered, MoreScattered}
-use Rattle.damage.specs.Slips.{slipLimit, slipReach, farSlipLimit, farSlipReach, RefusesSlips, Slips, MissesSlips, MoreSlips}
+use Rattle.damage.specs.Slips.{slipLimit, slipReach, farSlipLimit, farSlipReach, RefusesSlips, Slips, SettlesSlips, SlipsAnywhere, MissesSlips, MoreSlips}
 use Rattle.damage.specs.Readers.{tableWith, readWith, theTests}
 use Rattle.damage.proofs.OneBurst.{refuses-bursts}
 use Rattle.damage.proofs.LongerBurst.{misses-bursts}
 use Rattle.damage.proofs.Scattered.{refuses-scattered}
 use Rattle.damage.proofs.MoreScattered.{misses-scattered}
 use Rattle.damage.proofs.Slips.{refuses-slips, refuses-far-slips}
+use Rattle.damage.proofs.SlipsAnywhere.{settles-slips}
 use Rattle.damage.proofs.MoreSlips.{misses-slips}
 
 pub the-tests : (asked : Asked) → readWith theTests asked ≡ readBy asked
@@ -54,6 +55,13 @@ slips =
       byReadWellFormed = subst (RefusesSlips slipLimit slipReach) (the-tests WellFormed) (refuses-slips WellFormed);
       farByRead = subst (RefusesSlips farSlipLimit farSlipReach) (the-tests Proper) (refuses-far-slips Proper);
       farByReadWellFormed = subst (RefusesSlips farSlipLimit farSlipReach) (the-tests WellFormed) (refuses-far-slips WellFormed);
+    }
+
+pub slips-anywhere : SlipsAnywhere
+slips-anywhere =
+    record {
+      byRead = subst (SettlesSlips farSlipLimit) (the-tests Proper) (settles-slips Proper);
+      byReadWellFormed = subst (SettlesSlips farSlipLimit) (the-tests WellFormed) (settles-slips WellFormed);
     }
 
 pub more-slips : MoreSlips

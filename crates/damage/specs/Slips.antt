@@ -4,6 +4,7 @@
 use Prim.Native.Nat.{ℕ, suc, _+_, _-_, _≤_, _<_}
 use mathlib.Core.Bool.{Bool, false}
 use mathlib.Core.List.{List, [], _∷_, _++_}
+use mathlib.Core.Logic.{_⊎_}
 use mathlib.Core.Path.{_≡_}
 use lib.Dec.{T}
 use lib.ListN.{length, take, drop}
@@ -83,6 +84,32 @@ pub record Slips : Type 0 where
   pub byReadWellFormed : RefusesSlips slipLimit slipReach readWellFormedOf
   pub farByRead : RefusesSlips farSlipLimit farSlipReach readOf
   pub farByReadWellFormed : RefusesSlips farSlipLimit farSlipReach readWellFormedOf
+
+-- ---- at every place
+
+-- v is a window of the telegram without damage
+pub record Undamaged (format : Format) (b : List ℕ) (flipped : Bool) (v : List ℕ) : Type 0 where
+  pub turn : ℕ
+  pub below : turn < numbersOf format .n
+  pub window : v ≡ cut (windowBits (numbersOf format)) turn flipped b
+
+-- 1 to `limit` bits lost at one place, or put in, wherever that is (the slipped bits alone are the reach): refused with 5, or without damage
+pub record SettlesSlips (limit : ℕ) (read : List ℕ → List ℕ → Outcome ReadAnswer) : Type 0 where
+  pub lost : (asked : Asked) (format : Format) (b : List ℕ) → T (isAsked asked format b)
+      → (t : ℕ) → t < numbersOf format .n → (flipped : Bool)
+      → (s : ℕ) → 1 ≤ s → s ≤ limit
+      → (v : List ℕ) → Lost s (windowBits (numbersOf format)) s (cut (windowBits (numbersOf format) + s) t flipped b) v
+      → (out : List ℕ) → SlipRefused format out (read v out) ⊎ Undamaged format b flipped v
+  pub putIn : (asked : Asked) (format : Format) (b : List ℕ) → T (isAsked asked format b)
+      → (t : ℕ) → t < numbersOf format .n → (flipped : Bool)
+      → (s : ℕ) → 1 ≤ s → s ≤ limit
+      → (v : List ℕ) → PutIn s (windowBits (numbersOf format)) s (cut (windowBits (numbersOf format) - s) t flipped b) v
+      → (out : List ℕ) → SlipRefused format out (read v out) ⊎ Undamaged format b flipped v
+
+-- of both window calls, 1 to 10 bits
+pub record SlipsAnywhere : Type 0 where
+  pub byRead : SettlesSlips farSlipLimit readOf
+  pub byReadWellFormed : SettlesSlips farSlipLimit readWellFormedOf
 
 -- ---- no more can be asked
 

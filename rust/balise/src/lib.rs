@@ -265,10 +265,14 @@ pub fn check(telegram: &[u8]) -> Result<Format, Refusal> {
 ///
 /// Refuses with `Length`, `NotBit`, `OutputShort`, `EndsDiffer`, `NotDivisible`,
 /// `NoTurn`, `Control` and `NotWord`, and with `OffStep`, `Repeating` and
-/// `Thinned` where the telegram is well-formed and not fit to burn. A window of a
+/// `Thinned` where the telegram is well-formed and not fit to burn.
+///
+/// Surely refused, by this call and by [`read_well_formed`]: a window of a
 /// well-formed telegram of which one or more bits are changed, all within 75
-/// neighbouring ones, is refused with `EndsDiffer` or `NotDivisible`, by this call
-/// and by [`read_well_formed`].
+/// neighbouring ones, or at most 14 anywhere (16 of a short window), with
+/// `EndsDiffer` or `NotDivisible`; one in which 1 to 4 bits were lost at one place
+/// or put in there, 21 bits or more from either edge, with `EndsDiffer`.
+/// docs/DAMAGE.md has it all.
 pub fn read(window: &[u8], output: &mut [u8]) -> Result<Reading, Refusal> {
     answer(exported::balise_read, window, output).result(Answer::reading)
 }

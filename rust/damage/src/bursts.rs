@@ -1,14 +1,17 @@
 //! Bursts: changed bits within 75 neighbouring places of a window (document 02,
 //! No. 8).
 
-use crate::telegrams::{appendix_b, Set, Window};
-use crate::trial::Damage;
+use crate::telegrams::{appendix_b, Kind, Window};
+use crate::trial::{changed, random_damage, Damage};
 use second::format::Format;
 use second::random::Random;
 use std::fmt;
 
 /// The most places within which a burst is refused, whatever it changes.
 pub const SPAN: usize = 75;
+
+/// The refusals of which one is proved.
+pub const REFUSALS: [u8; 2] = [5, 6];
 
 /// Changed bits of a window, from the first changed one to the last.
 #[derive(Clone, Debug, PartialEq, Eq)]
@@ -58,26 +61,20 @@ impl Burst {
     pub fn places(&self) -> impl Iterator<Item = usize> + '_ {
         (self.first()..=self.last()).filter(|place| self.changes[place - self.from] == 1)
     }
-
-    /// The refusal that is proved: 5 where one of the first r or the last r bits
-    /// of the window is changed, otherwise 6.
-    pub fn refusal(&self, format: Format) -> u8 {
-        let (n, r) = (format.telegram_bits(), format.extra_bits());
-        if self.places().any(|place| place < r || place >= n) {
-            5
-        } else {
-            6
-        }
-    }
 }
 
 impl Damage for Burst {
-    fn damaged(&self, window: &[u8]) -> Vec<u8> {
-        let mut damaged = window.to_vec();
-        for place in self.places() {
-            damaged[place] ^= 1;
-        }
-        damaged
+    fn damaged(&self, window: &Window) -> Vec<u8> {
+        changed(window, self.places())
+    }
+
+    /// 5 where one of the first r or the last r bits of the window is changed,
+    /// otherwise 6.
+    fn refusal(&self, window: &Window) -> Option<u8> {
+        let format = window.format();
+        let (n, r) = (format.telegram_bits(), format.extra_bits());
+        let at_the_ends = self.places().any(|place| place < r || place >= n);
+        (self.span() <= SPAN).then_some(if at_the_ends { 5 } else { 6 })
     }
 }
 
@@ -145,19 +142,8 @@ pub fn single_changes(mut each: impl FnMut(&Window, &Burst)) {
     }
 }
 
-/// So many random windows of a format, and a random burst for each. One seed
-/// always gives the same.
-pub fn random_bursts(
-    format: Format,
-    count: usize,
-    seed: u64,
-    mut each: impl FnMut(&Window, &Burst),
-) {
-    let mut random = Random::new(seed);
-    let set = Set::new(&mut random, format);
-    for _ in 0..count {
-        let window = set.window(&mut random);
-        let burst = Burst::random(&mut random, format);
-        each(&window, &burst);
-    }
+/// So many random windows of a format, and a random burst for each.
+pub fn random_bursts(format: Format, count: usize, seed: u64, each: impl FnMut(&Window, &Burst)) {
+    let draw = |random: &mut Random, _: &Window| Burst::random(random, format);
+    random_damage(Kind::Of(format), count, seed, draw, each);
 }

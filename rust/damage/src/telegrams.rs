@@ -23,7 +23,7 @@ pub struct Telegram {
 }
 
 impl Telegram {
-    fn new(bits: Vec<u8>, name: String, proper: bool) -> Telegram {
+    pub fn new(bits: Vec<u8>, name: String, proper: bool) -> Telegram {
         Telegram {
             format: Format::of_telegram(bits.len()).expect("the length of a telegram"),
             bits,
@@ -73,29 +73,69 @@ pub fn random_proper(random: &mut Random, format: Format) -> Vec<Telegram> {
         .collect()
 }
 
-/// The telegrams of a format, to draw from: each of the three kinds is drawn as
-/// often as the others.
-pub struct Set([Vec<Telegram>; 3]);
+/// Which windows: those of a format, or bits of a long window's length cut from a
+/// short telegram.
+#[derive(Clone, Copy, Debug, PartialEq, Eq)]
+pub enum Kind {
+    Of(Format),
+    LongOfShort,
+}
+
+impl Kind {
+    /// The format of the telegrams.
+    pub fn telegram(self) -> Format {
+        match self {
+            Kind::Of(format) => format,
+            Kind::LongOfShort => Format::Short,
+        }
+    }
+
+    /// The format whose windows have this length.
+    pub fn window(self) -> Format {
+        match self {
+            Kind::Of(format) => format,
+            Kind::LongOfShort => Format::Long,
+        }
+    }
+}
+
+impl fmt::Display for Kind {
+    fn fmt(&self, f: &mut fmt::Formatter) -> fmt::Result {
+        match self {
+            Kind::Of(format) => write!(f, "{} windows", format.name()),
+            Kind::LongOfShort => write!(f, "long windows cut from short telegrams"),
+        }
+    }
+}
+
+/// The telegrams for a kind of windows, to draw from: each of the three origins is
+/// drawn as often as the others.
+pub struct Set {
+    kind: Kind,
+    origins: [Vec<Telegram>; 3],
+}
 
 impl Set {
-    pub fn new(random: &mut Random, format: Format) -> Set {
-        let kinds = [appendix_b(), not_proper(), random_proper(random, format)];
-        Set(kinds.map(|mut telegrams| {
+    pub fn new(random: &mut Random, kind: Kind) -> Set {
+        let format = kind.telegram();
+        let origins = [appendix_b(), not_proper(), random_proper(random, format)];
+        let origins = origins.map(|mut telegrams| {
             telegrams.retain(|telegram| telegram.format == format);
             telegrams
-        }))
+        });
+        Set { kind, origins }
     }
 
     /// A window of one of them, at any turn, upright or flipped.
     pub fn window(&self, random: &mut Random) -> Window<'_> {
-        let kind = &self.0[random.below(self.0.len())];
-        let telegram = &kind[random.below(kind.len())];
+        let origin = &self.origins[random.below(self.origins.len())];
+        let telegram = &origin[random.below(origin.len())];
         let turn = random.below(telegram.bits.len());
-        Window::new(telegram, turn, random.below(2) == 1)
+        Window::of_length(telegram, self.kind.window(), turn, random.below(2) == 1)
     }
 }
 
-/// A window of the set length, cut from a telegram going round (document 01,
+/// A window of a set length, cut from a telegram going round (document 01,
 /// "Search, reading and place").
 #[derive(Clone, Debug)]
 pub struct Window<'a> {
@@ -106,18 +146,44 @@ pub struct Window<'a> {
 }
 
 impl Window<'_> {
+    /// A window of the telegram's own format.
     pub fn new(telegram: &Telegram, turn: usize, flipped: bool) -> Window<'_> {
-        let length = telegram.format.window_bits();
+        Window::of_length(telegram, telegram.format, turn, flipped)
+    }
+
+    /// As many bits as a window of a format has.
+    pub fn of_length(
+        telegram: &Telegram,
+        format: Format,
+        turn: usize,
+        flipped: bool,
+    ) -> Window<'_> {
         Window {
             telegram,
             turn,
             flipped,
-            bits: cut(&telegram.bits, turn, length, flipped),
+            bits: cut(&telegram.bits, turn, format.window_bits(), flipped),
         }
     }
 
+    /// The format whose windows have this length.
     pub fn format(&self) -> Format {
-        self.telegram.format
+        Format::of_window(self.bits.len()).expect("the length of a window")
+    }
+
+    /// So many bits of the telegram going round, from so many after the window's
+    /// beginning on.
+    pub fn sent(&self, from: usize, length: usize) -> Vec<u8> {
+        cut(&self.telegram.bits, self.turn + from, length, self.flipped)
+    }
+
+    /// Whether these bits are cut from the same telegram without damage, at
+    /// whatever turn.
+    pub fn undamaged(&self, bits: &[u8]) -> bool {
+        let telegram = &self.telegram.bits;
+        let round = |turn| telegram.iter().cycle().skip(turn);
+        let flip = u8::from(self.flipped);
+        (0..telegram.len()).any(|turn| bits.iter().zip(round(turn)).all(|(a, b)| a ^ flip == *b))
     }
 }
 

@@ -1,55 +1,22 @@
 //! Bursts (document 02, No. 8): refused with 5 or 6, as is foretold, by the
 //! library and by the second program, every byte of the output kept.
 
+mod shared;
+
 use compare::asked;
-use damage::bursts::{random_bursts, Burst, SPAN};
-use damage::telegrams::{appendix_b, Window};
-use damage::trial::{Answer, Call, Trial, CALLS};
+use damage::bursts::{random_bursts, Burst, REFUSALS, SPAN};
+use damage::telegrams::Window;
+use damage::trial::{Outputs, Trial};
 use second::bits::bits_of;
 use second::cyclic::g;
-use second::format::{Format, FORMATS};
+use second::format::FORMATS;
 use second::Refusal;
+use shared::{print, refused_as_foretold, windows_of_one, BOTH_PROGRAMS};
 use std::collections::BTreeMap;
 
-/// The window calls of the library, and then those of the second program.
-const BOTH_PROGRAMS: [Call; 4] = [
-    CALLS[0],
-    CALLS[1],
-    Call {
-        name: "read of the second program",
-        read: |window, output| number(second::read(window, output)),
-    },
-    Call {
-        name: "read-well-formed of the second program",
-        read: |window, output| number(second::read_well_formed(window, output)),
-    },
-];
-
-fn number<T>(answer: Result<T, Refusal>) -> u8 {
-    answer.map_or_else(Refusal::number, |_| 0)
-}
-
-/// Gives a damaged window to the calls, which must refuse it as is foretold.
-fn refused_as_foretold(trial: &mut Trial, window: &Window, burst: &Burst) {
-    let number = burst.refusal(window.format());
-    let answers = trial.give(window, burst);
-    let foretold = Answer { number, kept: true };
-    let refused = answers.iter().all(|&answer| answer == foretold);
-    assert!(refused, "{window}, {burst}: {answers:?}, not {number}");
-}
-
-/// Prints what a trial counted, in which nothing was found.
-fn print(trial: &Trial, what: &str) {
-    assert!(trial.all_refused() && trial.findings.is_empty());
-    println!("{} {what}", trial.given);
-    for (call, tally) in trial.calls.iter().zip(&trial.tallies) {
-        let name = call.name;
-        assert_eq!(tally.with_5 + tally.with_6, trial.given);
-        println!(
-            "    {name}: 5: {}, 6: {}, anything else: {}",
-            tally.with_5, tally.with_6, tally.other
-        );
-    }
+/// A trial of bursts by both programs.
+fn trial(seed: u64) -> Trial<'static> {
+    Trial::new(&BOTH_PROGRAMS, &REFUSALS, Outputs::Room, seed)
 }
 
 /// Where the random bursts of a format were, and how long.
@@ -119,7 +86,7 @@ const BURSTS: usize = 200_000;
 fn random() {
     let count = asked("BALISE_BURSTS", BURSTS).max(BURSTS);
     for format in FORMATS {
-        let mut trial = Trial::new(&BOTH_PROGRAMS, 80);
+        let mut trial = trial(80);
         let mut places = Places::default();
         random_bursts(format, count, 81, |window, burst| {
             refused_as_foretold(&mut trial, window, burst);
@@ -147,16 +114,6 @@ fn without_damage() {
     }
 }
 
-/// Windows of one telegram of a format, at two turns, upright and flipped.
-fn windows_of_one(format: Format, each: impl FnMut(Window)) {
-    let rows = appendix_b();
-    let telegram = rows.iter().find(|row| row.format == format).unwrap();
-    let ways = [(0, false), (0, true), (200, false), (200, true)];
-    ways.map(|(turn, flipped)| Window::new(telegram, turn, flipped))
-        .into_iter()
-        .for_each(each);
-}
-
 /// Bursts of 75 places at every place: all bits changed, and only the first and
 /// the last.
 #[test]
@@ -165,7 +122,7 @@ fn of_75_at_every_place() {
     let mut two = vec![0; SPAN];
     (two[0], two[SPAN - 1]) = (1, 1);
     for format in FORMATS {
-        let mut trial = Trial::new(&BOTH_PROGRAMS, 82);
+        let mut trial = trial(82);
         windows_of_one(format, |window| {
             for from in 0..=window.bits.len() - SPAN {
                 for changes in [&all, &two] {
@@ -187,7 +144,7 @@ fn of_76_by_g() {
     for format in FORMATS {
         let (n, r) = (format.telegram_bits(), format.extra_bits());
         let changes = bits_of(g(format), SPAN + 1);
-        let mut trial = Trial::new(&BOTH_PROGRAMS, 83);
+        let mut trial = trial(83);
         let mut numbers: BTreeMap<u8, usize> = BTreeMap::new();
         windows_of_one(format, |window| {
             for from in r..=n - (SPAN + 1) {
@@ -201,6 +158,6 @@ fn of_76_by_g() {
         });
         let (name, given) = (format.name(), trial.given);
         println!("{given} bursts of 76 by g in {name} windows, by number: {numbers:?}");
-        assert!(given > 0 && trial.tallies.iter().all(|tally| tally.other == given));
+        assert!(given > 0 && trial.all_refused());
     }
 }
