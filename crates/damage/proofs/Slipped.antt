@@ -13,7 +13,7 @@ use Rattle.bits.proofs.AllBits.{allBits-nil, allBits-append, allBits-take, allB
 use Rattle.bits.proofs.Ring.{length-around, allBits-around}
 use Rattle.reader.specs.Windows.{oriented, cut}
 use Rattle.reader.proofs.Windows.{bits-oriented, cut-oriented}
-use Rattle.damage.specs.Slips.{Lost, PutIn}
+use Rattle.damage.specs.Slips.{Lost, PutIn, Slip}
 use Rattle.damage.proofs.Stretches.{stretch, stretch-append, stretch-take, stretch-around, stretch-repeated}
 
 -- ---- a slip of either kind
@@ -34,7 +34,7 @@ pub record Slipped (reach size s : ℕ) (x v : List ℕ) : Type 0 where
   pub apart : (next ≡ first + length others + s) ⊎ (first + length others ≡ next + s)
 
 -- bits were lost
-pub lost-slipped : (reach size s : ℕ) (x v : List ℕ) → s ≤ reach → length x ≡ size + s → Lost reach size s x v → Slipped reach size s x v
+lost-slipped : (reach size s : ℕ) (x v : List ℕ) → s ≤ reach → length x ≡ size + s → Lost reach size s x v → Slipped reach size s x v
 lost-slipped reach size s x v small sent lost =
     record {
       first = lost .place;
@@ -51,7 +51,7 @@ lost-slipped reach size s x v small sent lost =
     }
 
 -- or put in
-pub put-in-slipped : (reach size s : ℕ) (x v : List ℕ) → s ≤ reach → length x ≡ size - s → PutIn reach size s x v → Slipped reach size s x v
+put-in-slipped : (reach size s : ℕ) (x v : List ℕ) → s ≤ reach → length x ≡ size - s → PutIn reach size s x v → Slipped reach size s x v
 put-in-slipped reach size s x v small sent put =
     record {
       first = put .place;
@@ -128,3 +128,19 @@ module _ (b : List ℕ) (sent t : ℕ) (flipped : Bool) (some : 0 < length b) wh
 
   pub stretch-stream : (i j : ℕ) → j + i ≤ sent → stretch i j (cut sent t flipped b) ≡ around i (t + j) (oriented flipped b)
   stretch-stream i j within = ap (stretch i j) stream-is ∙ stretch-around i j sent t (oriented flipped b) within
+
+-- ---- both
+
+-- what was sent, and the slip
+pub record SlippedFrom (reach size s t : ℕ) (flipped : Bool) (b v : List ℕ) : Type 0 where
+  pub sent : ℕ
+  pub slip : Slipped reach size s (cut sent t flipped b) v
+
+pub slipped-from : (reach size s t : ℕ) (flipped : Bool) (b v : List ℕ) → 0 < length b → s ≤ reach
+    → Slip reach size s t flipped b v → SlippedFrom reach size s t flipped b v
+slipped-from reach size s t flipped b v held small (inl lost) =
+    let x = cut (size + s) t flipped b in
+    record { sent = size + s; slip = lost-slipped reach size s x v small (length-stream b (size + s) t flipped held) lost }
+slipped-from reach size s t flipped b v held small (inr put) =
+    let x = cut (size - s) t flipped b in
+    record { sent = size - s; slip = put-in-slipped reach size s x v small (length-stream b (size - s) t flipped held) put }

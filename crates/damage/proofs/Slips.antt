@@ -7,7 +7,7 @@ use mathlib.Core.Path.{_≡_, sym, ap, _∙_}
 use mathlib.Core.List.{List, [], _∷_}
 use mathlib.Core.Logic.{inl, inr, ⊎-elim}
 use native.Mathlib.Omega.{arith}
-use lib.Dec.{T, lit≤}
+use lib.Dec.{lit≤}
 use lib.ListN.{length, take, drop}
 use Rattle.bits.specs.Bits.{allBits, around}
 use Rattle.bits.proofs.Ring.{around-period}
@@ -20,14 +20,13 @@ use Rattle.refusals.specs.declared.Refusal.the-variants.{EndsDiffer}
 use Rattle.telegrams.proofs.WellFormed.{WellFormed, parts}
 use Rattle.reader.specs.declared.Asked.{Asked}
 use Rattle.reader.specs.Windows.{oriented, cut}
-use Rattle.reader.specs.CutFrom.{isAsked}
 use Rattle.reader.proofs.AsAsked.{asked-tested}
 use Rattle.reader.proofs.Ends.{ends-differ}
 use Rattle.reader.proofs.Windows.{length-oriented}
 use Rattle.damage.specs.Readers.{readWith, theTests}
-use Rattle.damage.specs.Slips.{slipLimit, slipReach, farSlipLimit, farSlipReach, SlipRefused, RefusesSlips}
+use Rattle.damage.specs.Slips.{slipLimit, slipReach, farSlipLimit, farSlipReach, RefusesSlips}
 use Rattle.damage.proofs.Periods.{Rule, nearRule, farRule, apart-differ}
-use Rattle.damage.proofs.Slipped.{Slipped, lost-slipped, put-in-slipped, resumed, length-slipped, bits-slipped, stretch-before, repeat-after, length-stream, bits-stream, stretch-stream}
+use Rattle.damage.proofs.Slipped.{Slipped, slipped-from, resumed, length-slipped, bits-slipped, stretch-before, repeat-after, length-stream, bits-stream, stretch-stream}
 use Rattle.damage.proofs.Readers.{given-5, refused-with}
 
 -- the slipped bits are fewer than those from an edge to them
@@ -62,37 +61,23 @@ module _ (F : Numbers) (S : Sizes F) (b : List ℕ) (form : WellFormed F b) (sen
 
 -- ---- what a reader answers that tests the ends as the window calls do
 
-module _ (asked : Asked) (limit reach : ℕ) (rule : Rule limit reach) (repeats : (format : Format) → reach ≤ numbersOf format .r) where
-  -- to a slip of either kind
-  slip-refused : (of : Asked) (format : Format) (b : List ℕ) → T (isAsked of format b)
-      → (sent t : ℕ) (flipped : Bool) (s : ℕ) → 1 ≤ s → s ≤ limit → (v : List ℕ)
-      → (length (cut sent t flipped b) ≡ sent → Slipped reach (windowBits (numbersOf format)) s (cut sent t flipped b) v)
-      → (out : List ℕ) → SlipRefused format out (readWith theTests asked v out)
-  slip-refused of format b h sent t flipped s some few v make out =
-      let F = numbersOf format in
-      let S = sizesOf format in
-      let x = cut sent t flipped b in
-      let form = parts F b (asked-tested of format b .0 h .0) in
-      let held : 0 < length b = omega (arith, form .size, S .n-is) in
-      let slip = make (length-stream b sent t flipped held) in
-      let size = length-slipped reach (windowBits F) s x v slip in
-      let bits = is-true (allBits v) (bits-slipped reach (windowBits F) s x v slip (bits-stream b sent t flipped held (form .bits))) in
-      let differ = ends-differ F v (slip-ends F S b form sent t flipped limit reach rule (repeats format) s some few v slip) in
-      refused-with theTests asked format v out size bits (EndsDiffer ∷ []) λ room. inl (given-5 theTests asked format v out size bits room differ)
-
-  -- lost bits, and bits put in
-  refuses : RefusesSlips limit reach (readWith theTests asked)
-  refuses =
-      record {
-        lost = λ of format b h t below flipped s some few v lost.
-            let L = windowBits (numbersOf format) in
-            slip-refused of format b h (L + s) t flipped s some few v
-            (λ sent. lost-slipped reach L s (cut (L + s) t flipped b) v (small limit reach rule s few) sent lost);
-        putIn = λ of format b h t below flipped s some few v put.
-            let L = windowBits (numbersOf format) in
-            slip-refused of format b h (L - s) t flipped s some few v
-            (λ sent. put-in-slipped reach L s (cut (L - s) t flipped b) v (small limit reach rule s few) sent put);
-      }
+refuses : (asked : Asked) (limit reach : ℕ) → Rule limit reach → ((format : Format) → reach ≤ numbersOf format .r)
+    → RefusesSlips limit reach (readWith theTests asked)
+refuses asked limit reach rule repeats =
+    record {
+      refuses = λ of format b h t below flipped s some few v made out.
+          let F = numbersOf format in
+          let S = sizesOf format in
+          let L = windowBits F in
+          let form = parts F b (asked-tested of format b .0 h .0) in
+          let held : 0 < length b = omega (arith, form .size, S .n-is) in
+          let from = slipped-from reach L s t flipped b v held (small limit reach rule s few) made in
+          let x = cut (from .sent) t flipped b in
+          let size = length-slipped reach L s x v (from .slip) in
+          let bits = is-true (allBits v) (bits-slipped reach L s x v (from .slip) (bits-stream b (from .sent) t flipped held (form .bits))) in
+          let differ = ends-differ F v (slip-ends F S b form (from .sent) t flipped limit reach rule (repeats format) s some few v (from .slip)) in
+          refused-with theTests asked format v out size bits (EndsDiffer ∷ []) λ room. inl (given-5 theTests asked format v out size bits room differ);
+    }
 
 -- a window repeats as many bits as a slip must be from its edges
 near-repeated : (format : Format) → slipReach ≤ numbersOf format .r

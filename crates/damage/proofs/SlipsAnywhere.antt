@@ -8,7 +8,6 @@ use mathlib.Core.Logic.{_⊎_, inl, inr}
 use native.Mathlib.Nat.{mod-lt}
 use native.Mathlib.Decide.{decLt}
 use native.Mathlib.Omega.{arith}
-use lib.Dec.{T}
 use lib.ListN.{length, take, drop, length-drop, take-append-drop}
 use lib.Seq.{take-all}
 use Rattle.bits.specs.Bits.{allBits, around}
@@ -22,16 +21,15 @@ use Rattle.telegrams.proofs.WellFormed.{WellFormed, parts}
 use Rattle.conditions.proofs.Round.{around-mod}
 use Rattle.reader.specs.declared.Asked.{Asked}
 use Rattle.reader.specs.Windows.{oriented, cut}
-use Rattle.reader.specs.CutFrom.{isAsked}
 use Rattle.reader.specs.Reads.{endsAgree}
 use Rattle.reader.proofs.AsAsked.{asked-tested}
 use Rattle.reader.proofs.Ends.{ends-repeat}
 use Rattle.reader.proofs.Windows.{length-oriented, cut-oriented}
 use Rattle.damage.specs.Readers.{readWith, theTests}
-use Rattle.damage.specs.Slips.{farSlipLimit, farSlipReach, SlipRefused, Undamaged, SettlesSlips}
+use Rattle.damage.specs.Slips.{farSlipLimit, farSlipReach, Slip, SlipRefused, Undamaged, SettlesSlips}
 use Rattle.damage.proofs.Stretches.{stretch}
 use Rattle.damage.proofs.Periods.{farRule}
-use Rattle.damage.proofs.Slipped.{Slipped, lost-slipped, put-in-slipped, resumed, length-slipped, bits-slipped, stretch-before, stretch-after, repeat-after, length-stream, bits-stream, stretch-stream}
+use Rattle.damage.proofs.Slipped.{Slipped, SlippedFrom, slipped-from, resumed, length-slipped, bits-slipped, stretch-before, stretch-after, repeat-after, length-stream, bits-stream, stretch-stream}
 use Rattle.damage.proofs.Readers.{given-5, refused-with}
 use Rattle.damage.proofs.Slips.{far-repeated, slip-ends}
 
@@ -149,37 +147,29 @@ module _ (format : Format) (b : List ℕ) (form : WellFormed (numbersOf format) 
 
 -- ---- what a reader answers that tests the ends as the window calls do
 
-module _ (asked : Asked) where
-  -- to a slip of either kind
-  slip-settled : (of : Asked) (format : Format) (b : List ℕ) → T (isAsked of format b)
-      → (sent t : ℕ) (flipped : Bool) (s : ℕ) → 1 ≤ s → s ≤ farSlipLimit → (v : List ℕ)
-      → (length (cut sent t flipped b) ≡ sent → Slipped s (windowBits (numbersOf format)) s (cut sent t flipped b) v)
-      → (out : List ℕ) → SlipRefused format out (readWith theTests asked v out) ⊎ Undamaged format b flipped v
-  slip-settled of format b h sent t flipped s some few v make out =
-      go (parts (numbersOf format) b (asked-tested of format b .0 h .0)) (endsAgree (numbersOf format) v) refl
-    where
-      go : WellFormed (numbersOf format) b → (u : Bool) → endsAgree (numbersOf format) v ≡ u
-          → SlipRefused format out (readWith theTests asked v out) ⊎ Undamaged format b flipped v
-      go form false e =
-          let L = windowBits (numbersOf format) in
-          let x = cut sent t flipped b in
-          let held : 0 < length b = omega (arith, form .size, sizesOf format .n-is) in
-          let slip = make (length-stream b sent t flipped held) in
-          let size = length-slipped s L s x v slip in
-          let bits = is-true (allBits v) (bits-slipped s L s x v slip (bits-stream b sent t flipped held (form .bits))) in
-          inl (refused-with theTests asked format v out size bits (EndsDiffer ∷ []) λ room. inl (given-5 theTests asked format v out size bits room e))
-      go form true e =
-          let held : 0 < length b = omega (arith, form .size, sizesOf format .n-is) in
-          let slip = make (length-stream b sent t flipped held) in
-          inr (undamaged format b form sent t flipped s v slip (ends-repeat (numbersOf format) v e) some few)
+-- to a slip of either kind, by the ends
+settled : (asked : Asked) (format : Format) (b : List ℕ) → WellFormed (numbersOf format) b → (t : ℕ) (flipped : Bool)
+    → (s : ℕ) → 1 ≤ s → s ≤ farSlipLimit → (v : List ℕ) → Slip s (windowBits (numbersOf format)) s t flipped b v → (out : List ℕ)
+    → (u : Bool) → endsAgree (numbersOf format) v ≡ u → SlipRefused format out (readWith theTests asked v out) ⊎ Undamaged format b flipped v
+settled asked format b form t flipped s some few v made out u e =
+    let L = windowBits (numbersOf format) in
+    let held : 0 < length b = omega (arith, form .size, sizesOf format .n-is) in
+    go (slipped-from s L s t flipped b v held (omega arith) made) held u e
+  where
+    go : SlippedFrom s (windowBits (numbersOf format)) s t flipped b v → 0 < length b → (u : Bool) → endsAgree (numbersOf format) v ≡ u
+        → SlipRefused format out (readWith theTests asked v out) ⊎ Undamaged format b flipped v
+    go from held false e =
+        let L = windowBits (numbersOf format) in
+        let x = cut (from .sent) t flipped b in
+        let size = length-slipped s L s x v (from .slip) in
+        let bits = is-true (allBits v) (bits-slipped s L s x v (from .slip) (bits-stream b (from .sent) t flipped held (form .bits))) in
+        inl (refused-with theTests asked format v out size bits (EndsDiffer ∷ []) λ room. inl (given-5 theTests asked format v out size bits room e))
+    go from held true e = inr (undamaged format b form (from .sent) t flipped s v (from .slip) (ends-repeat (numbersOf format) v e) some few)
 
-  pub settles-slips : SettlesSlips farSlipLimit (readWith theTests asked)
-  settles-slips =
-      record {
-        lost = λ of format b h t below flipped s some few v lost.
-            let L = windowBits (numbersOf format) in
-            slip-settled of format b h (L + s) t flipped s some few v (λ sent. lost-slipped s L s (cut (L + s) t flipped b) v (omega arith) sent lost);
-        putIn = λ of format b h t below flipped s some few v put.
-            let L = windowBits (numbersOf format) in
-            slip-settled of format b h (L - s) t flipped s some few v (λ sent. put-in-slipped s L s (cut (L - s) t flipped b) v (omega arith) sent put);
-      }
+pub settles-slips : (asked : Asked) → SettlesSlips farSlipLimit (readWith theTests asked)
+settles-slips asked =
+    record {
+      settles = λ of format b h t below flipped s some few v made out.
+          settled asked format b (parts (numbersOf format) b (asked-tested of format b .0 h .0)) t flipped s some few v made out
+          (endsAgree (numbersOf format) v) refl;
+    }

@@ -58,6 +58,10 @@ pub record PutIn (reach size s : ℕ) (x v : List ℕ) : Type 0 where
   pub bits : T (allBits values)
   pub window : v ≡ take place x ++ (values ++ drop place x)
 
+-- v is a window of size bits with a slip of either kind, of the telegram b going round, from its turn t on, upright or flipped
+abbrev pub Slip : ℕ → ℕ → ℕ → ℕ → Bool → List ℕ → List ℕ → Type 0
+Slip reach size s t flipped b v = Lost reach size s (cut (size + s) t flipped b) v ⊎ PutIn reach size s (cut (size - s) t flipped b) v
+
 -- ---- what is answered
 
 -- refused with 5
@@ -67,15 +71,10 @@ SlipRefused format out answered = RefusedWith (EndsDiffer ∷ []) format out ans
 -- what is asked of a window call: a window of the set length from a well-formed telegram, or a proper one, upright or flipped, at any turn,
 -- with 1 to `limit` bits lost at one place, or put in
 pub record RefusesSlips (limit reach : ℕ) (read : List ℕ → List ℕ → Outcome ReadAnswer) : Type 0 where
-  pub lost : (asked : Asked) (format : Format) (b : List ℕ) → T (isAsked asked format b)
+  pub refuses : (asked : Asked) (format : Format) (b : List ℕ) → T (isAsked asked format b)
       → (t : ℕ) → t < numbersOf format .n → (flipped : Bool)
       → (s : ℕ) → 1 ≤ s → s ≤ limit
-      → (v : List ℕ) → Lost reach (windowBits (numbersOf format)) s (cut (windowBits (numbersOf format) + s) t flipped b) v
-      → (out : List ℕ) → SlipRefused format out (read v out)
-  pub putIn : (asked : Asked) (format : Format) (b : List ℕ) → T (isAsked asked format b)
-      → (t : ℕ) → t < numbersOf format .n → (flipped : Bool)
-      → (s : ℕ) → 1 ≤ s → s ≤ limit
-      → (v : List ℕ) → PutIn reach (windowBits (numbersOf format)) s (cut (windowBits (numbersOf format) - s) t flipped b) v
+      → (v : List ℕ) → Slip reach (windowBits (numbersOf format)) s t flipped b v
       → (out : List ℕ) → SlipRefused format out (read v out)
 
 -- of both window calls: 1 to 4 bits, and 1 to 10 farther from the edges
@@ -95,15 +94,10 @@ pub record Undamaged (format : Format) (b : List ℕ) (flipped : Bool) (v : List
 
 -- 1 to `limit` bits lost at one place, or put in, wherever that is (the slipped bits alone are the reach): refused with 5, or without damage
 pub record SettlesSlips (limit : ℕ) (read : List ℕ → List ℕ → Outcome ReadAnswer) : Type 0 where
-  pub lost : (asked : Asked) (format : Format) (b : List ℕ) → T (isAsked asked format b)
+  pub settles : (asked : Asked) (format : Format) (b : List ℕ) → T (isAsked asked format b)
       → (t : ℕ) → t < numbersOf format .n → (flipped : Bool)
       → (s : ℕ) → 1 ≤ s → s ≤ limit
-      → (v : List ℕ) → Lost s (windowBits (numbersOf format)) s (cut (windowBits (numbersOf format) + s) t flipped b) v
-      → (out : List ℕ) → SlipRefused format out (read v out) ⊎ Undamaged format b flipped v
-  pub putIn : (asked : Asked) (format : Format) (b : List ℕ) → T (isAsked asked format b)
-      → (t : ℕ) → t < numbersOf format .n → (flipped : Bool)
-      → (s : ℕ) → 1 ≤ s → s ≤ limit
-      → (v : List ℕ) → PutIn s (windowBits (numbersOf format)) s (cut (windowBits (numbersOf format) - s) t flipped b) v
+      → (v : List ℕ) → Slip s (windowBits (numbersOf format)) s t flipped b v
       → (out : List ℕ) → SlipRefused format out (read v out) ⊎ Undamaged format b flipped v
 
 -- of both window calls, 1 to 10 bits
