@@ -7,8 +7,8 @@ use compare::asked;
 use damage::slips::{after, before, limits, random_slips, Limit, Slip, Slipped};
 use damage::slips::{LIMITS, REFUSALS};
 use damage::stretches::{Stretch, Stretched};
-use damage::telegrams::Window;
-use damage::trial::{Damage, Outputs, Trial};
+use damage::telegrams::{Kind, Window};
+use damage::trial::{random_damage, Damage, Outputs, Trial};
 use second::bits::bits_of;
 use second::format::FORMATS;
 use second::made::bits_of_words;
@@ -188,6 +188,45 @@ fn at_every_place() {
             assert!(lost.eq((least..=most).map(|_| 4 * 2)));
             assert_eq!(at_a_limit.len(), 2 * (most - least + 1));
         }
+    }
+}
+
+/// A slip of 1 to 10 bits at any place, half the time near an edge.
+fn anywhere(random: &mut Random, window: &Window) -> Slip {
+    let [Limit { reach, .. }, Limit { most, .. }] = LIMITS;
+    let many = 1 + random.below(most);
+    Slip::drawn(random, window, many, |random, sent| {
+        let near = random.below(reach);
+        match random.below(4) {
+            0 => near,
+            1 => sent - near,
+            _ => random.below(sent + 1),
+        }
+    })
+}
+
+/// Wherever 1 to 10 bits slip, the window is refused with 5, or it is one without
+/// damage, at another turn, and is answered as such.
+#[test]
+fn at_any_place() {
+    let count = asked("BALISE_DAMAGED", SLIPS).max(SLIPS);
+    for format in FORMATS {
+        let (mut trial, mut undamaged) = (trial(Outputs::Room, 123), 0);
+        random_damage(Kind::Of(format), count, 124, anywhere, |window, slip| {
+            let answers = trial.give(window, slip);
+            let noticed = answers.iter().all(|answer| answer.is_one_of(&REFUSALS));
+            let without_damage = window.undamaged(&slip.damaged(window));
+            assert!(noticed != without_damage, "{window}, {slip}: {answers:?}");
+            if without_damage {
+                let accepted = answers.iter().map(|answer| answer.number == 0);
+                let proper = window.telegram.proper;
+                assert!(accepted.eq([proper, true, proper, true]));
+                undamaged += 1;
+            }
+        });
+        let (given, name) = (trial.given, format.name());
+        println!("{given} slips of 1 to 10 bits at any place of {name} windows: {undamaged} without damage, the others refused with 5");
+        assert!(given == count && undamaged > count / 100);
     }
 }
 
