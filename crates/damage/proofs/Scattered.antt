@@ -17,6 +17,7 @@ use Rattle.formats.specs.declared.format.Format.{Format}
 use Rattle.formats.specs.declared.format.Format.the-variants.{Long}
 use Rattle.formats.specs.Numbers.{Numbers, long, numbersOf, windowBits, gOf}
 use Rattle.formats.proofs.Sizes.{Sizes, sizesOf}
+use Rattle.refusals.specs.declared.Refusal.{Refusal}
 use Rattle.refusals.specs.declared.Refusal.the-variants.{EndsDiffer, NotDivisible, NoTurn}
 use Rattle.cyclic.specs.declared.Turn.the-variants.{Nothing}
 use Rattle.cyclic.specs.Remainder.{remainder}
@@ -35,7 +36,7 @@ use Rattle.damage.specs.Readers.{readWith, theTests}
 use Rattle.damage.proofs.Sums.{differences-self}
 use Rattle.damage.proofs.Roots.{Roots, rootsOf}
 use Rattle.damage.proofs.Distance.{near-equal}
-use Rattle.damage.proofs.Windows.{divided-of, Whole, cut-whole, rounds-whole, rounds-turn}
+use Rattle.damage.proofs.Windows.{divided-of, is-divided, Whole, cut-whole, rounds-whole, rounds-turn}
 use Rattle.damage.proofs.Pairs.{ends-paired, paired-ends}
 use Rattle.damage.proofs.Readers.{given-5, given-6, given-7, refused-with}
 
@@ -91,22 +92,32 @@ module _ (asked : Asked) (format : Format) (w v out : List ℕ) (whole : Whole (
     by-ends room true e = inr (inl (refused-6 room e))
     by-ends room false e = inl (refused-5 room e)
 
-    pub scattered-refused : ScatteredRefused format w v out (readWith theTests asked v out)
-    scattered-refused =
-        let F = numbersOf format in
-        let S = sizesOf format in
-        record {
-          refused = refused-with theTests asked format v out size bits (EndsDiffer ∷ NotDivisible ∷ []) (λ room. by-ends room (endsAgree F v) refl);
-          unpaired = λ room not. refused-5 room (ends-differ F v (λ e. not (ends-paired F S w v whole (changed .size) e)));
-          paired = λ room all. refused-6 room (ends-agree F v (paired-ends F S w v whole (changed .size) (changed .bits) all));
-        }
+  -- which of the two
+  told : (refusals : List Refusal) → RefusedWith refusals format out (readWith theTests asked v out)
+      → ScatteredRefused refusals format k w v out (readWith theTests asked v out)
+  told refusals refused =
+      let F = numbersOf format in
+      let S = sizesOf format in
+      record {
+        refused = refused;
+        unpaired = λ room not. refused-5 room (ends-differ F v (λ e. not (ends-paired F S w v whole (changed .size) e)));
+        paired = λ room some all. refused-6 some room (ends-agree F v (paired-ends F S w v whole (changed .size) (changed .bits) all));
+      }
+
+  -- of a window of the telegram's own format
+  scattered-refused : 1 ≤ k → ScatteredRefused (EndsDiffer ∷ NotDivisible ∷ []) format k w v out (readWith theTests asked v out)
+  scattered-refused some =
+      told (EndsDiffer ∷ NotDivisible ∷ [])
+      (refused-with theTests asked format v out size bits (EndsDiffer ∷ NotDivisible ∷ [])
+      (λ room. by-ends some room (endsAgree (numbersOf format) v) refl))
 
   -- where the true window has no turn there is 7 beside
   unturned-refused : turnFound (numbersOf format) w ≡ Nothing
-      → RefusedWith (EndsDiffer ∷ NotDivisible ∷ NoTurn ∷ []) format out (readWith theTests asked v out)
+      → ScatteredRefused (EndsDiffer ∷ NotDivisible ∷ NoTurn ∷ []) format k w v out (readWith theTests asked v out)
   unturned-refused none =
-      refused-with theTests asked format v out size bits (EndsDiffer ∷ NotDivisible ∷ NoTurn ∷ [])
-      (λ room. by-tests room (endsAgree (numbersOf format) v) refl (divisible (numbersOf format) (take (numbersOf format .n) v)) refl)
+      told (EndsDiffer ∷ NotDivisible ∷ NoTurn ∷ [])
+      (refused-with theTests asked format v out size bits (EndsDiffer ∷ NotDivisible ∷ NoTurn ∷ [])
+      (λ room. by-tests room (endsAgree (numbersOf format) v) refl (divisible (numbersOf format) (take (numbersOf format .n) v)) refl))
     where
       by-tests : numbersOf format .m ≤ length out → (t : Bool) → endsAgree (numbersOf format) v ≡ t
           → (u : Bool) → divisible (numbersOf format) (take (numbersOf format .n) v) ≡ u
@@ -115,6 +126,14 @@ module _ (asked : Asked) (format : Format) (w v out : List ℕ) (whole : Whole (
       by-tests room true e false d = inr (inl (given-6 theTests asked format v out size bits room e d))
       by-tests room true e true d =
           inr (inr (inl (given-7 theTests asked format v out size bits room e d (ap (turnFound (numbersOf format)) (same-of e d) ∙ none))))
+
+-- a window without damage that has no turn
+unturned : (asked : Asked) (format : Format) (w out : List ℕ) → Whole (numbersOf format) w → turnFound (numbersOf format) w ≡ Nothing
+    → numbersOf format .m ≤ length out → readWith theTests asked w out ≡ outcome (Refused NoTurn) out
+unturned asked format w out whole none room =
+    let F = numbersOf format in
+    given-7 theTests asked format w out (whole .size) (is-true (allBits w) (whole .bits)) room (ends-agree F w (whole .ends))
+    (is-divided F (take (F .n) w) (whole .divided)) none
 
 -- ---- of every window
 
@@ -127,4 +146,7 @@ refuses-scattered asked =
       longFromShort = λ of b h t below flipped k few v changed out.
           let w = cut (windowBits long) t flipped b in
           unturned-refused asked Long w v out (rounds-whole of b h t below flipped) k few changed (rounds-turn of b h t below flipped);
+      longUnchanged = λ of b h t below flipped out room.
+          let w = cut (windowBits long) t flipped b in
+          unturned asked Long w out (rounds-whole of b h t below flipped) (rounds-turn of b h t below flipped) room;
     }

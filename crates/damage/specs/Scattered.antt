@@ -13,6 +13,7 @@ use Rattle.bits.specs.Differences.{differences}
 use Rattle.formats.specs.declared.format.Format.{Format}
 use Rattle.formats.specs.declared.format.Format.the-variants.{Long, Short}
 use Rattle.formats.specs.Numbers.{Numbers, long, short, numbersOf, windowBits}
+use Rattle.refusals.specs.declared.Refusal.{Refusal}
 use Rattle.refusals.specs.declared.Refusal.the-variants.{EndsDiffer, NotDivisible, NoTurn}
 use Rattle.refusals.specs.Outcome.{Outcome, outcome}
 use Rattle.reader.specs.declared.Asked.{Asked}
@@ -39,13 +40,13 @@ pub record Scattered (k : ℕ) (w v : List ℕ) : Type 0 where
 abbrev pub Paired : Numbers → List ℕ → List ℕ → Type 0
 Paired F w v = (i : ℕ) → i < F .r → Changed w v i ↔ Changed w v (F .n + i)
 
--- the answer to v, which is the format's window w with bits changed
-pub record ScatteredRefused (format : Format) (w v out : List ℕ) (answered : Outcome ReadAnswer) : Type 0 where
-  pub refused : RefusedWith (EndsDiffer ∷ NotDivisible ∷ []) format out answered
+-- the answer to v, which is the window w, of the format's length, with k bits changed: refused with one of these
+pub record ScatteredRefused (refusals : List Refusal) (format : Format) (k : ℕ) (w v out : List ℕ) (answered : Outcome ReadAnswer) : Type 0 where
+  pub refused : RefusedWith refusals format out answered
   -- lent room, with 5 where only one place of some pair is changed
   pub unpaired : numbersOf format .m ≤ length out → (Paired (numbersOf format) w v → ⊥) → answered ≡ outcome (Refused EndsDiffer) out
-  -- with 6 where of each pair both are or neither is
-  pub paired : numbersOf format .m ≤ length out → Paired (numbersOf format) w v → answered ≡ outcome (Refused NotDivisible) out
+  -- with 6 where something is changed, and of each pair both places are or neither is
+  pub paired : numbersOf format .m ≤ length out → 1 ≤ k → Paired (numbersOf format) w v → answered ≡ outcome (Refused NotDivisible) out
 
 -- what is asked of a window call
 pub record RefusesScattered (read : List ℕ → List ℕ → Outcome ReadAnswer) : Type 0 where
@@ -55,13 +56,19 @@ pub record RefusesScattered (read : List ℕ → List ℕ → Outcome ReadAnswer
       → (t : ℕ) → t < numbersOf format .n → (flipped : Bool)
       → (k : ℕ) → 1 ≤ k → k ≤ scatterLimit format
       → (v : List ℕ) → Scattered k (cut (windowBits (numbersOf format)) t flipped b) v
-      → (out : List ℕ) → ScatteredRefused format (cut (windowBits (numbersOf format)) t flipped b) v out (read v out)
+      → (out : List ℕ)
+      → ScatteredRefused (EndsDiffer ∷ NotDivisible ∷ []) format k (cut (windowBits (numbersOf format)) t flipped b) v out (read v out)
   -- a window of the long format's length from a short telegram, with 0 to 14 bits changed: refused with 5, 6 or 7
   pub longFromShort : (asked : Asked) (b : List ℕ) → T (isAsked asked Short b)
       → (t : ℕ) → t < short .n → (flipped : Bool)
       → (k : ℕ) → k ≤ scatterLimit Long
       → (v : List ℕ) → Scattered k (cut (windowBits long) t flipped b) v
-      → (out : List ℕ) → RefusedWith (EndsDiffer ∷ NotDivisible ∷ NoTurn ∷ []) Long out (read v out)
+      → (out : List ℕ)
+      → ScatteredRefused (EndsDiffer ∷ NotDivisible ∷ NoTurn ∷ []) Long k (cut (windowBits long) t flipped b) v out (read v out)
+  -- with 7 where none is changed
+  pub longUnchanged : (asked : Asked) (b : List ℕ) → T (isAsked asked Short b)
+      → (t : ℕ) → t < short .n → (flipped : Bool)
+      → (out : List ℕ) → long .m ≤ length out → read (cut (windowBits long) t flipped b) out ≡ outcome (Refused NoTurn) out
 
 -- of both window calls
 pub record ScatteredChanges : Type 0 where
