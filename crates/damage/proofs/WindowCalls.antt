@@ -8,13 +8,13 @@ use Rattle.damage.specs.Bursts.{RefusesBursts, OneBurst, MissesBursts, L
 use Rattle.damage.specs.Scattered.{RefusesScattered, ScatteredChanges, MissesScattered, MoreScattered}
 use Rattle.damage.specs.Slips.{slipLimit, slipReach, farSlipLimit, farSlipReach, RefusesSlips, Slips, SettlesSlips, SlipsAnywhere, MissesSlips, MoreSlips}
 use Rattle.damage.specs.Readers.{tableWith, readWith, theTests}
-use Rattle.damage.proofs.OneBurst.{refuses-bursts}
-use Rattle.damage.proofs.LongerBurst.{misses-bursts}
-use Rattle.damage.proofs.Scattered.{refuses-scattered}
-use Rattle.damage.proofs.MoreScattered.{misses-scattered}
-use Rattle.damage.proofs.Slips.{refuses-slips, refuses-far-slips}
-use Rattle.damage.proofs.SlipsAnywhere.{settles-slips}
-use Rattle.damage.proofs.MoreSlips.{misses-slips}
+use Rattle.damage.proofs.Bursts.OneBurst.{refuses-bursts}
+use Rattle.damage.proofs.Bursts.LongerBurst.{misses-bursts}
+use Rattle.damage.proofs.Scattered.FewChanges.{refuses-scattered}
+use Rattle.damage.proofs.Scattered.OneMore.{misses-scattered}
+use Rattle.damage.proofs.Slips.FarEnough.{refuses-slips, refuses-far-slips}
+use Rattle.damage.proofs.Slips.Anywhere.{settles-slips}
+use Rattle.damage.proofs.Slips.OneMore.{misses-slips}
 
 pub the-tests : (asked : Asked) → readWith theTests asked ≡ readBy asked
 unfolding readWith tableWith readBy readAs readTable

@@ -27,11 +27,11 @@ use Rattle.reader.proofs.Ends.{ends-repeat}
 use Rattle.reader.proofs.Windows.{length-oriented, cut-oriented}
 use Rattle.damage.specs.Readers.{readWith, theTests}
 use Rattle.damage.specs.Slips.{farSlipLimit, farSlipReach, Slip, SlipRefused, Undamaged, SettlesSlips}
-use Rattle.damage.proofs.Stretches.{stretch}
-use Rattle.damage.proofs.Periods.{farRule}
-use Rattle.damage.proofs.Slipped.{Slipped, SlippedFrom, slipped-from, resumed, length-slipped, bits-slipped, stretch-before, stretch-after, repeat-after, length-stream, bits-stream, stretch-stream}
+use Rattle.damage.proofs.Slips.Stretches.{stretch}
+use Rattle.damage.proofs.Slips.Periods.{farRule}
+use Rattle.damage.proofs.Slips.Slipped.{Slipped, SlippedFrom, slipped-from, resumed, length-slipped, bits-slipped, stretch-before, stretch-after, repeat-after, length-stream, bits-stream, stretch-stream}
 use Rattle.damage.proofs.Readers.{given-5, refused-with}
-use Rattle.damage.proofs.Slips.{far-repeated, slip-ends}
+use Rattle.damage.proofs.Slips.FarEnough.{far-repeated, slip-ends}
 
 -- a list as two stretches
 two-stretches : (i j : ℕ) (l : List ℕ) → length l ≡ i + j → l ≡ stretch i 0 l ++ stretch j i l

@@ -18,10 +18,10 @@ use Rattle.cyclic.proofs.Registers.{Reg, same-bits, By, remainder-is, one, none
 use Rattle.cyclic.proofs.Quotients.{quotient, whole}
 use Rattle.cyclic.proofs.Facts.{Facts}
 use Rattle.damage.proofs.Sums.{sum-nothing, ones, ones-none, ones-sum}
-use Rattle.damage.proofs.Powers.{Power, spread, bits-spread, power-times}
-use Rattle.damage.proofs.BoseRayChaudhuriHocquenghem.{bch-bound}
-use Rattle.damage.proofs.Orders.{reaches, fixed-reached}
-use Rattle.damage.proofs.Roots.{isRoot, Roots}
+use Rattle.damage.proofs.Scattered.Powers.{Power, spread, bits-spread, power-times}
+use Rattle.damage.proofs.Scattered.BoseRayChaudhuriHocquenghem.{bch-bound}
+use Rattle.damage.proofs.Scattered.Orders.{reaches, fixed-reached}
+use Rattle.damage.proofs.Scattered.Roots.{isRoot, Roots}
 use Rattle.damage.proofs.Divided.{shifts-round, divided-sum}
 
 module _ (F : Numbers) (A : Facts F) (d : ℕ) (R : Roots F d) where

@@ -15,8 +15,8 @@ use Rattle.cyclic.specs.Remainder.{step, remainderFrom, remainder}
 use Rattle.cyclic.proofs.Lists.{zeros}
 use Rattle.cyclic.proofs.Registers.{Monic}
 use Rattle.damage.specs.Scattered.{scatterLimit}
-use Rattle.damage.proofs.Powers.{spread}
-use Rattle.damage.proofs.Orders.{Inverse, reaches}
+use Rattle.damage.proofs.Scattered.Powers.{spread}
+use Rattle.damage.proofs.Scattered.Orders.{Inverse, reaches}
 
 -- x^(i+1) is a root of g by h
 unfoldable pub isRoot : List ℕ → List ℕ → ℕ → Bool

@@ -11,7 +11,7 @@ use Rattle.cyclic.proofs.Lists.{Bits}
 use Rattle.cyclic.proofs.Space.{Space, times, pick, pow, pow-nil, pow-add, pow-sum, times-none, times-leading, zeros-front, equal-of-nil, swap-middle}
 use Rattle.damage.proofs.Sums.{ones}
 use Rattle.damage.proofs.Shifts.{shifts-nil}
-use Rattle.damage.proofs.Powers.{Power, power-pow}
+use Rattle.damage.proofs.Scattered.Powers.{Power, power-pow}
 
 module _ (M : Space) where
   open Space M using (Car, nil, add, unit, self)

@@ -28,7 +28,7 @@ use Rattle.reader.specs.Windows.{oriented}
 use Rattle.reader.proofs.Windows.{oriented-twice, cut-is, cut-oriented}
 use Rattle.witnesses.proofs.Twice.{known}
 use Rattle.damage.specs.Slips.{slipLimit, slipReach, farSlipLimit, farSlipReach}
-use Rattle.damage.proofs.Stretches.{stretch, stretch-around}
+use Rattle.damage.proofs.Slips.Stretches.{stretch, stretch-around}
 
 -- ---- bits with a period
 

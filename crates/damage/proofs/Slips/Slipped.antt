@@ -14,7 +14,7 @@ use Rattle.bits.proofs.Ring.{length-around, allBits-around}
 use Rattle.reader.specs.Windows.{oriented, cut}
 use Rattle.reader.proofs.Windows.{bits-oriented, cut-oriented}
 use Rattle.damage.specs.Slips.{Lost, PutIn, Slip}
-use Rattle.damage.proofs.Stretches.{stretch, stretch-append, stretch-take, stretch-around, stretch-repeated}
+use Rattle.damage.proofs.Slips.Stretches.{stretch, stretch-append, stretch-take, stretch-around, stretch-repeated}
 
 -- ---- a slip of either kind
 
