@@ -3,20 +3,18 @@
 use Prim.Native.Nat.{ℕ, _+_, _-_, _%_, _≤_, _<_}
 use mathlib.Core.Bool.{Bool, true, false}
 use mathlib.Core.Path.{_≡_, refl, sym, ap, ap₂, _∙_}
-use mathlib.Core.List.{List, [], _∷_, _++_}
+use mathlib.Core.List.{List, _++_}
 use mathlib.Core.Logic.{_⊎_, inl, inr}
 use native.Mathlib.Nat.{mod-lt}
 use native.Mathlib.Decide.{decLt}
 use native.Mathlib.Omega.{arith}
 use lib.ListN.{length, take, drop, length-drop, take-append-drop}
 use lib.Seq.{take-all}
-use Rattle.bits.specs.Bits.{allBits, around}
-use Rattle.bits.proofs.Ring.{around-append, around-period}
-use Rattle.bits.proofs.Tests.{is-true}
+use Rattle.bits.specs.Bits.{around}
+use Rattle.bits.proofs.Ring.{around-append}
 use Rattle.formats.specs.declared.format.Format.{Format}
 use Rattle.formats.specs.Numbers.{Numbers, numbersOf, windowBits}
 use Rattle.formats.proofs.Sizes.{Sizes, sizesOf}
-use Rattle.refusals.specs.declared.Refusal.the-variants.{EndsDiffer}
 use Rattle.telegrams.proofs.WellFormed.{WellFormed, parts}
 use Rattle.conditions.proofs.Round.{around-mod}
 use Rattle.reader.specs.declared.Asked.{Asked}
@@ -29,9 +27,8 @@ use Rattle.damage.specs.Readers.{readWith, theTests}
 use Rattle.damage.specs.Slips.{farSlipLimit, farSlipReach, Slip, SlipRefused, Undamaged, SettlesSlips}
 use Rattle.damage.proofs.Slips.Stretches.{stretch}
 use Rattle.damage.proofs.Slips.Periods.{farRule}
-use Rattle.damage.proofs.Slips.Slipped.{Slipped, SlippedFrom, slipped-from, resumed, length-slipped, bits-slipped, stretch-before, stretch-after, repeat-after, length-stream, bits-stream, stretch-stream}
-use Rattle.damage.proofs.Readers.{given-5, refused-with}
-use Rattle.damage.proofs.Slips.FarEnough.{far-repeated, slip-ends}
+use Rattle.damage.proofs.Slips.Slipped.{Slipped, SlippedFrom, slipped-from, once-round, resumed, length-slipped, stretch-before, stretch-after, repeat-after, length-stream, stretch-stream}
+use Rattle.damage.proofs.Slips.FarEnough.{far-repeated, slip-ends, slip-refused}
 
 -- a list as two stretches
 two-stretches : (i j : ℕ) (l : List ℕ) → length l ≡ i + j → l ≡ stretch i 0 l ++ stretch j i l
@@ -60,10 +57,6 @@ module _ (format : Format) (b : List ℕ) (form : WellFormed (numbersOf format) 
 
   held : 0 < length b
   held = omega (arith, form .size, S .n-is)
-
-  -- once round
-  round : (k p : ℕ) → around k (p + F .n) ring ≡ around k p ring
-  round k p = ap (λ (n : ℕ). around k (p + n) ring) (sym (length-oriented flipped b ∙ form .size)) ∙ around-period k p ring
 
   -- bits of the ring are a window without damage
   window-at : (p : ℕ) → v ≡ around L p ring → Undamaged format b flipped v
@@ -95,7 +88,7 @@ module _ (format : Format) (b : List ℕ) (form : WellFormed (numbersOf format) 
       let rest : stretch (L - m) m v ≡ around (L - m) (t + p + m) ring =
       ap (λ (k : ℕ). stretch (L - m) k v) (sym place) ∙ stretch-after s L s x v slip (L - m) 0
       ∙ ap (λ (k : ℕ). stretch (L - m) k x) start ∙ stretch-stream b sent t flipped held (L - m) (slip .next) (omega arith)
-      ∙ sym (round (L - m) (t + slip .next)) ∙ ap (λ (k : ℕ). around (L - m) k ring) back in
+      ∙ sym (once-round b flipped (F .n) (form .size) (L - m) (t + slip .next)) ∙ ap (λ (k : ℕ). around (L - m) k ring) back in
       two-stretches m (L - m) v (length-slipped s L s x v slip ∙ parts) ∙ ap₂ _++_ front rest ∙ sym (around-append m (L - m) (t + p) ring)
       ∙ ap (λ (k : ℕ). around k (t + p) ring) (sym parts)
 
@@ -113,7 +106,7 @@ module _ (format : Format) (b : List ℕ) (form : WellFormed (numbersOf format) 
       λ i few. stretch-before s L s x v slip i 0 (omega arith) ∙ stretch-stream b sent t flipped held i 0 (omega arith)
       ∙ ap (λ (k : ℕ). around i k ring) start in
       let last : stretch r n v ≡ around r (t + n) ring =
-      take-all r (drop n v) (omega (arith, length-drop n v)) ∙ e ∙ first r within ∙ sym (round r t) in
+      take-all r (drop n v) (omega (arith, length-drop n v)) ∙ e ∙ first r within ∙ sym (once-round b flipped n (form .size) r t) in
       two-stretches n r v all ∙ ap₂ _++_ (first n (omega arith)) last ∙ sym (around-append n r t ring)
 
   -- far from both edges the ends do not agree
@@ -158,12 +151,7 @@ settled asked format b form t flipped s some few v made out u e =
   where
     go : SlippedFrom s (windowBits (numbersOf format)) s t flipped b v → 0 < length b → (u : Bool) → endsAgree (numbersOf format) v ≡ u
         → SlipRefused format out (readWith theTests asked v out) ⊎ Undamaged format b flipped v
-    go from held false e =
-        let L = windowBits (numbersOf format) in
-        let x = cut (from .sent) t flipped b in
-        let size = length-slipped s L s x v (from .slip) in
-        let bits = is-true (allBits v) (bits-slipped s L s x v (from .slip) (bits-stream b (from .sent) t flipped held (form .bits))) in
-        inl (refused-with theTests asked format v out size bits (EndsDiffer ∷ []) λ room. inl (given-5 theTests asked format v out size bits room e))
+    go from held false e = inl (slip-refused asked format b (form .bits) held s s t flipped v from e out)
     go from held true e = inr (undamaged format b form (from .sent) t flipped s v (from .slip) (ends-repeat (numbersOf format) v e) some few)
 
 pub settles-slips : (asked : Asked) → SettlesSlips farSlipLimit (readWith theTests asked)

@@ -10,9 +10,9 @@ use lib.ListN.{length, take, drop, length-append, length-drop}
 use lib.Seq.{drop-append-add, drop-drop, length-take-le}
 use Rattle.bits.specs.Bits.{allBits, around}
 use Rattle.bits.proofs.AllBits.{allBits-nil, allBits-append, allBits-take, allBits-drop}
-use Rattle.bits.proofs.Ring.{length-around, allBits-around}
+use Rattle.bits.proofs.Ring.{length-around, allBits-around, around-period}
 use Rattle.reader.specs.Windows.{oriented, cut}
-use Rattle.reader.proofs.Windows.{bits-oriented, cut-oriented}
+use Rattle.reader.proofs.Windows.{length-oriented, bits-oriented, cut-oriented}
 use Rattle.damage.specs.Slips.{Lost, PutIn, Slip}
 use Rattle.damage.proofs.Slips.Stretches.{stretch, stretch-append, stretch-take, stretch-around, stretch-repeated}
 
@@ -128,6 +128,12 @@ module _ (b : List ℕ) (sent t : ℕ) (flipped : Bool) (some : 0 < length b) wh
 
   pub stretch-stream : (i j : ℕ) → j + i ≤ sent → stretch i j (cut sent t flipped b) ≡ around i (t + j) (oriented flipped b)
   stretch-stream i j within = ap (stretch i j) stream-is ∙ stretch-around i j sent t (oriented flipped b) within
+
+-- once round the ring
+pub once-round : (b : List ℕ) (flipped : Bool) (n : ℕ) → length b ≡ n → (k p : ℕ) → around k (p + n) (oriented flipped b) ≡ around k p (oriented flipped b)
+once-round b flipped n size k p =
+    let ring = oriented flipped b in
+    ap (λ (i : ℕ). around k (p + i) ring) (sym (length-oriented flipped b ∙ size)) ∙ around-period k p ring
 
 -- ---- both
 
