@@ -1,7 +1,8 @@
 -- A loop that searches from 0 up for the first number that passes a test: those before p have failed. Assumes nothing.
 use mathlib.Core.Path.{_≡_, ap, _∙_}
 use mathlib.Core.Bool.{Bool, true, false}
-use Prim.Native.Nat.{ℕ, suc, _+_, _-_, _≤_, _<_}
+use Prim.Native.Nat.{ℕ, zero, suc, _+_, _-_, _≤_, _<_}
+use native.Mathlib.Nat.{add-zero}
 use native.Mathlib.Omega.{arith}
 use Rattle.bits.specs.Search.{First, found, none, firstOf}
 use Rattle.bits.proofs.First.{first-none, first-here, first-later}
@@ -35,3 +36,19 @@ module _ {test : ℕ → Bool} {answer : First} {k p : ℕ} (l : Left test answe
 
   pub left-none : k ≤ p → answer ≡ none
   left-none h = l .rest ∙ ap (firstOf test p) (count-done h) ∙ first-none test p
+
+-- none of the next d passes
+fewer-by : {test : ℕ → Bool} {answer : First} {k p : ℕ} → Left test answer k p → (d : ℕ) → p + d ≤ k
+    → ((j : ℕ) → p ≤ j → j < p + d → test j ≡ false) → Left test answer k (p + d)
+fewer-by l zero within fail = rw add-zero l
+fewer-by {p} l (suc d) within fail =
+    let next : p + d + 1 ≡ p + suc d = omega arith in
+    rw next at
+    (left-fewer (fewer-by l d (omega arith) (λ j from below. fail j from (omega arith))) (omega arith) (fail (p + d) (omega arith) (omega arith)))
+
+-- none of those from p up to q passes
+pub left-past : {test : ℕ → Bool} {answer : First} {k p : ℕ} → Left test answer k p → (q : ℕ) → p ≤ q → q ≤ k
+    → ((j : ℕ) → p ≤ j → j < q → test j ≡ false) → Left test answer k q
+left-past {p} l q from within fail =
+    let all : p + (q - p) ≡ q = omega arith in
+    rw all at (fewer-by l (q - p) (omega arith) (λ j h below. fail j h (omega arith)))

@@ -1,16 +1,17 @@
--- Numbers and their binary digits: the number of some bits, the bits of a number, and each from the other. Assumes nothing.
+-- Numbers and their binary digits: the number of some bits, the bits of a number, each from the other, and the bits of a number in two parts.
+-- Assumes nothing.
 use mathlib.Core.Path.{_≡_, refl, sym, ap, ap₂, _∙_}
 use mathlib.Core.List.{List, [], _∷_, _++_}
 use Prim.Native.Nat.{ℕ, zero, suc, _+_, _*_, _/_, _%_, _^_, _<_}
-use native.Mathlib.Nat.{pow-suc, mul-assoc, add-mul, add-assoc, mul-comm, zero-add, mod-eq-of-lt}
+use native.Mathlib.Nat.{pow-suc, mul-assoc, add-mul, add-assoc, add-comm, mul-comm, zero-add, suc-add, mod-eq-of-lt}
 use native.Mathlib.Numerals.{add-one, one-add}
 use native.Mathlib.Omega.{arith}
 use lib.Arith.{digits-lt}
 use lib.Dec.{T, lit<}
 use lib.ListN.{length}
-use lib.Pow.{high, mod-pow-add}
+use lib.Pow.{high, low, mod-pow-add, shr-shr}
 use Rattle.bits.specs.Bits.{allBits, numberFrom, numberOf, bitsOf}
-use Rattle.bits.proofs.AllBits.{allBits-head, allBits-tail}
+use Rattle.bits.proofs.AllBits.{allBits-head, allBits-tail, allBits-bitsOf}
 
 -- (a*2 + b)*p is a*(p*2) + b*p
 shift : (a b p n : ℕ) → (a * 2 + b) * p + n ≡ a * (p * 2) + (b * p + n)
@@ -85,3 +86,21 @@ bitsOf-from a (b ∷ s) h =
 
 pub bitsOf-numberOf : (k : ℕ) (s : List ℕ) → T (allBits s) → length s ≡ k → bitsOf k (numberOf s) ≡ s
 bitsOf-numberOf k s h e = rw (← e) (bitsOf-from 0 s h)
+
+-- the digits from place k on, and then the lowest k
+pub bitsOf-add : (j k x : ℕ) → bitsOf (j + k) x ≡ bitsOf j (x / 2 ^ k) ++ bitsOf k x
+unfolding bitsOf
+bitsOf-add zero k x = rw zero-add
+bitsOf-add (suc j) k x =
+    rw suc-add
+    (ap₂ _∷_ (ap (λ (y : ℕ). y % 2) (ap (λ (i : ℕ). x / 2 ^ i) (add-comm j k) ∙ sym (shr-shr x k j))) (bitsOf-add j k x))
+
+-- digits above the lowest k do not count
+pub bitsOf-mod : (k x : ℕ) → bitsOf k (x % 2 ^ k) ≡ bitsOf k x
+bitsOf-mod k x = ap (bitsOf k) (sym (numberOf-bitsOf k x)) ∙ bitsOf-numberOf k (bitsOf k x) (allBits-bitsOf k x) (length-bitsOf k x)
+
+-- the digits of a, and then the k digits of b
+pub bitsOf-join : (j k a b : ℕ) → b < 2 ^ k → bitsOf (j + k) (a * 2 ^ k + b) ≡ bitsOf j a ++ bitsOf k b
+bitsOf-join j k a b h =
+    bitsOf-add j k (a * 2 ^ k + b)
+    ∙ ap₂ _++_ (ap (bitsOf j) (high a k h)) (sym (bitsOf-mod k (a * 2 ^ k + b)) ∙ ap (bitsOf k) (low a k h))

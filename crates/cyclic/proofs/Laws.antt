@@ -6,14 +6,14 @@ use mathlib.Core.Path.{_≡_, sym, ap, ap₂, _∙_}
 use mathlib.Core.Logic.{_↔_}
 use mathlib.Core.List.{List, [], _∷_, _++_}
 use native.Mathlib.Omega.{arith}
-use lib.ListN.{length}
+use lib.ListN.{length, length-append}
 use Rattle.bits.specs.Bits.{flip}
 use Rattle.formats.specs.Polynomial.{sum, polynomial}
 use Rattle.formats.specs.Numbers.{Numbers, long, short, fOf, gOf, fgOf}
 use Rattle.cyclic.specs.Remainder.{remainder}
 use Rattle.cyclic.specs.Check.{gPadded, checkBits, turned, turnRemainder}
 use Rattle.bits.proofs.AllBits.{allBits-append}
-use Rattle.cyclic.proofs.Lists.{bits-zeros, bits-sum, length-sum}
+use Rattle.cyclic.proofs.Lists.{bits-zeros, bits-sum, length-sum, sum-assoc, sum-comm, sum-self, sum-append}
 use Rattle.cyclic.proofs.Space.{pow, times-append, pow-nil, pow-add, other, twice, run-append, zeros-back}
 use Rattle.cyclic.proofs.Registers.{Reg, same-bits, remainder-is, one, none}
 use Rattle.cyclic.proofs.Quotients.{rem-short}
@@ -21,7 +21,7 @@ use Rattle.cyclic.proofs.Cyclic.{f-divides, g-divides, fg-divides, rem-
 pub use Rattle.cyclic.proofs.Cyclic.{bits-padded, length-padded}
 pub use Rattle.cyclic.proofs.Lists.{Bits, zeros, bits-turned, length-turned, turned-back}
 pub use Rattle.cyclic.proofs.Facts.{Facts, longFacts, shortFacts, long-g-divides, long-f-divides}
-pub use Rattle.cyclic.proofs.Remainders.{remainder-bits, remainder-length, length-remainder, remainder-next}
+pub use Rattle.cyclic.proofs.Remainders.{remainder-bits, remainder-length, length-remainder, remainder-next, remainder-sum, remainder-zeros}
 pub use Rattle.cyclic.proofs.Turns.{turn-unique, turn-never, turn-next, turnOf-turn, turnOf-at, turnOf-nothing}
 pub use Rattle.cyclic.proofs.Rounds.{thrice}
 
@@ -106,6 +106,25 @@ module _ (F : Numbers) (A : Facts F) where
   length-checkBits d =
       let size = length-remainder (A .fg-degree) (d ++ zeros 85) in
       length-sum (remainder (fgOf F) (d ++ zeros 85)) (gPadded F) (size ∙ sym (length-padded F A)) ∙ size
+
+  -- those of a sum: the remainder of what is added is added to them
+  pub checkBits-sum : (d c : List ℕ) → Bits d → Bits c → length d ≡ length c
+      → checkBits F (sum d c) ≡ sum (checkBits F d) (remainder (fgOf F) (c ++ zeros 85))
+  unfolding checkBits
+  checkBits-sum d c hd hc l =
+      let above = d ++ zeros 85 in
+      let added = c ++ zeros 85 in
+      let rd = remainder (fgOf F) above in
+      let rc = remainder (fgOf F) added in
+      let g = gPadded F in
+      let size : length above ≡ length added = length-append d (zeros 85) ∙ ap (λ (n : ℕ). n + 85) l ∙ sym (length-append c (zeros 85)) in
+      let split : sum d c ++ zeros 85 ≡ sum above added =
+      sym (sum-append d c (zeros 85) (zeros 85) l ∙ ap (λ (z : List ℕ). sum d c ++ z) (sum-self (zeros 85))) in
+      let bits-above = allBits-append d (zeros 85) hd (bits-zeros 85) in
+      let bits-added = allBits-append c (zeros 85) hc (bits-zeros 85) in
+      ap (λ (v : List ℕ). sum (remainder (fgOf F) v) g) split
+      ∙ ap (λ (v : List ℕ). sum v g) (remainder-sum (A .fg-degree) above added bits-above bits-added size)
+      ∙ sum-assoc rd rc g ∙ ap (sum rd) (sum-comm rc g) ∙ sym (sum-assoc rd g rc)
 
   -- the check bits, and nothing else, make a telegram leave g
   pub checks : (d c : List ℕ) → Bits d → Bits c → length c ≡ 85 → (remainder (fgOf F) (d ++ c) ≡ gPadded F) ↔ (c ≡ checkBits F d)

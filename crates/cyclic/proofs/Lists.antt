@@ -108,6 +108,10 @@ sum-self (b ∷ v) =
     let e : (b + b) % 2 ≡ 0 = omega arith in
     ap₂ {C = List ℕ} (λ x r. x ∷ r) e (sum-self v)
 
+-- what is added twice cancels
+pub sum-twice : (u v : List ℕ) → Bits v → length u ≡ length v → sum u (sum u v) ≡ v
+sum-twice u v h l = sym (sum-assoc u u v) ∙ ap (λ (w : List ℕ). sum w v) (sum-self u ∙ ap zeros l) ∙ sum-zeros v h
+
 -- the sum of two lists, part by part
 pub sum-append : (a b u v : List ℕ) → length a ≡ length b → sum (a ++ u) (b ++ v) ≡ sum a b ++ sum u v
 unfolding sum

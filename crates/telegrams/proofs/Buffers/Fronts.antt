@@ -2,10 +2,10 @@
 -- Assumes nothing.
 use mathlib.Core.Path.{_≡_, sym, ap, ap₂, _∙_}
 use mathlib.Core.List.{List, _++_, append-nil, append-assoc}
-use Prim.Native.Nat.{ℕ, _+_, _-_, _*_}
+use Prim.Native.Nat.{ℕ, _+_, _-_, _*_, _≤_}
 use native.Mathlib.Omega.{arith}
-use lib.ListN.{length, take, drop, length-drop, drop-of-length-le}
-use lib.Seq.{take-all, take-length, drop-drop}
+use lib.ListN.{length, take, drop, length-append, length-drop, drop-of-length-le, take-append-drop}
+use lib.Seq.{take-all, take-length, length-take-le, drop-drop}
 use borrow.Rule.Slice.PartMut.{putMid}
 use Rattle.bits.specs.Groups.{eachGroup}
 use Rattle.bits.proofs.Groups.{length-groups, groups-more}
@@ -42,3 +42,17 @@ group-more f w v size j s old out left next e next-is written =
     let place : v * j + v ≡ v * (j + 1) = omega arith in
     front-more (eachGroup f w j s) next old out left (v * j) v (length-groups f w v size j s) e written
     ∙ ap₂ (λ (front : List ℕ) (i : ℕ). front ++ drop i old) (ap (λ (l : List ℕ). eachGroup f w j s ++ l) next-is ∙ sym (groups-more f w j s)) place
+
+-- the callee puts w in the place of the k after the first a of s
+module _ (a k : ℕ) (s w left : List ℕ) (within : a ≤ length s) (size : length w ≡ k) (written : left ≡ w ++ drop k (lent a s)) where
+  put : back a s left ≡ (take a s ++ w) ++ drop (a + k) s
+  put = front-more (take a s) w s s left a k (length-take-le a s within) (sym (take-append-drop a s)) written
+
+  -- those stand after the first a
+  pub put-whole : take (a + k) (back a s left) ≡ take a s ++ w
+  put-whole =
+      front-is (take a s ++ w) (drop (a + k) s) (back a s left) (a + k) (length-append (take a s) w ∙ ap₂ _+_ (length-take-le a s within) size) put
+
+  -- which are as they were
+  pub put-front : take a (back a s left) ≡ take a s
+  put-front = front-is (take a s) (w ++ drop (a + k) s) (back a s left) a (length-take-le a s within) (put ∙ append-assoc (take a s) w (drop (a + k) s))
