@@ -6,7 +6,7 @@ use native.Mathlib.Nat.{add-zero, le-of-suc-le-suc}
 use native.Mathlib.Numerals.{add-one}
 use native.Mathlib.Omega.{arith}
 use lib.Dec.{T}
-use Rattle.bits.proofs.And.{and-left, and-right}
+use Rattle.bits.proofs.And.{and-left, and-right, and-of}
 use Rattle.bits.proofs.Rest.{count-more, count-done}
 use Rattle.conditions.specs.Conditions.{each}
 
@@ -25,6 +25,14 @@ pub each-same : (s t : ℕ → Bool) (i k : ℕ) → ((j : ℕ) → s j ≡ t j)
 unfolding each
 each-same s t i zero e = refl
 each-same s t i (suc k) e = rw (e i, each-same s t (suc i) k e)
+
+-- a test that follows from another
+pub each-follows : (s t : ℕ → Bool) (i k : ℕ) → ((j : ℕ) → j < i + k → T (s j) → T (t j)) → T (each s i k) → T (each t i k)
+unfolding each
+each-follows s t i zero follows h = tt
+each-follows s t i (suc k) follows h =
+    and-of (t i) (each t (suc i) k) (follows i (omega arith) (and-left (s i) (each s (suc i) k) h))
+    (each-follows s t (suc i) k (λ j below. follows j (omega arith)) (and-right (s i) (each s (suc i) k) h))
 
 -- one number is next, and the rest after it
 pub each-more : (test : ℕ → Bool) (i e : ℕ) → i < e → each test i (e - i) ≡ test i && each test (i + 1) (e - (i + 1))

@@ -26,7 +26,7 @@ longest-most c (true ∷ s) = omega (arith, longest-most (suc c) s)
 longest-most c (false ∷ s) = omega (arith, longest-most 0 s)
 
 -- at least that of the front
-longest-front : (c : ℕ) (x y : List Bool) → longestAfter c x ≤ longestAfter c (x ++ y)
+pub longest-front : (c : ℕ) (x y : List Bool) → longestAfter c x ≤ longestAfter c (x ++ y)
 unfolding longestAfter
 longest-front c [] y = longest-least c y
 longest-front c (true ∷ x) y = longest-front (suc c) x y

@@ -1,5 +1,5 @@
--- Bits and words round a ring: places are counted modulo its length, a loop takes the next bit, and words are cut into those before, one and
--- those after. Assumes nothing.
+-- Bits and words round a ring: places are counted modulo its length, a loop takes the next bit, words are cut into those before, one and
+-- those after, and those that lie in a front part are that part's. Assumes nothing.
 use mathlib.Core.Path.{_≡_, refl, sym, ap, ap₂, _∙_}
 use mathlib.Core.Bool.{Bool}
 use mathlib.Core.List.{List, [], _∷_, _++_}
@@ -7,10 +7,11 @@ use Prim.Native.Nat.{ℕ, zero, suc, _+_, _-_, _*_, _%_, _≤_, _<_}
 use native.Mathlib.Nat.{mod-mod, mod-add-mod, mod-eq-of-lt, mod-eq-sub-mod}
 use native.Mathlib.Numerals.{add-one}
 use native.Mathlib.Omega.{arith}
-use lib.ListN.{length, getD}
+use lib.ListN.{length, getD, take, drop, length-append, length-drop}
+use lib.Seq.{take-append-le, drop-append-le}
 use Rattle.bits.specs.Bits.{around}
 use Rattle.bits.proofs.Rest.{count-more, count-done}
-use Rattle.bits.proofs.Ring.{around-period}
+use Rattle.bits.proofs.Ring.{around-period, around-strip}
 use Rattle.words.specs.Words.{isWord}
 use Rattle.conditions.specs.Runs.{validWords}
 
@@ -43,6 +44,14 @@ around-more k i p b h inside =
 pub around-done : (k i p : ℕ) (b : List ℕ) → k ≤ i → around (k - i) p b ≡ []
 unfolding around
 around-done k i p b h = ap (λ (x : ℕ). around x p b) (count-done h)
+
+-- bits that lie in the front part
+pub around-front : (k p : ℕ) (d rest : List ℕ) → p + k ≤ length d → around k p (d ++ rest) ≡ around k p d
+around-front k p d rest inside =
+    let whole : p + k ≤ length (d ++ rest) = simp length-append (omega arith) in
+    let left : k ≤ length (drop p d) = simp length-drop (omega arith) in
+    around-strip k p (d ++ rest) whole ∙ ap (take k) (drop-append-le p d rest (omega arith))
+    ∙ take-append-le k (drop p d) rest left ∙ sym (around-strip k p d inside)
 
 pub length-validWords : (k p : ℕ) (b : List ℕ) → length (validWords k p b) ≡ k
 unfolding validWords
@@ -87,3 +96,11 @@ validWords-period (suc k) p b =
     let place : p + length b + 11 ≡ p + 11 + length b = omega arith in
     ap₂ (λ (x : List ℕ) (l : List Bool). isWord x ∷ l) (around-period 11 p b)
     (ap (λ (x : ℕ). validWords k x b) place ∙ validWords-period k (p + 11) b)
+
+-- words that lie in the front part
+pub validWords-front : (k p : ℕ) (d rest : List ℕ) → p + 11 * k ≤ length d → validWords k p (d ++ rest) ≡ validWords k p d
+unfolding validWords
+validWords-front zero p d rest inside = refl
+validWords-front (suc k) p d rest inside =
+    ap₂ (λ (x : List ℕ) (l : List Bool). isWord x ∷ l) (around-front 11 p d rest (omega arith))
+    (validWords-front k (p + 11) d rest (omega arith))

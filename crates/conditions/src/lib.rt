@@ -14,7 +14,7 @@ use refusals::Refusal;
 pub mod off_step;
 pub mod repeating;
 mod ring;
-mod run;
+pub mod run;
 pub mod thinned;
 
 // Which condition fails, by its refusal.

@@ -10,7 +10,7 @@ use formats::format;
 use formats::format::Format;
 
 // The longest run allowed off step by p.
-fn limit_at(format: Format, p: usize) -> usize
+pub fn limit_at(format: Format, p: usize) -> usize
     ensures { λ r. ⌜ r ≡ limitAt format p ⌝ }
 {
     if p == 1 {

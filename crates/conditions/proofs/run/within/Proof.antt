@@ -1,105 +1,36 @@
--- `conditions::run::within` meets its contract. The loop's invariant: no run over the limit begins at one of the i words passed. Assumes nothing.
-use mathlib.Core.Path.{_≡_, refl, sym, ap, _∙_}
-use mathlib.Core.List.{List}
-use Prim.Native.Nat.{ℕ, _+_, _-_, _≤_, _<_}
-use native.Mathlib.Nat.{mod-lt}
+-- `conditions::run::within` meets its contract: the words of the ring, and as many more as the limit, decide. Assumes nothing.
+use mathlib.Core.Path.{_≡_, sym, ap, _∙_}
+use mathlib.Core.List.{List, _++_}
+use Prim.Native.Nat.{ℕ, _+_, _-_, _*_, _<_}
 use native.Mathlib.Omega.{arith}
+use borrow.Author.Needs.{needs}
 use lib.Dec.{leb}
 use lib.ListN.{length}
-use Rattle.conditions.specs.Runs.{validWords, longestRound}
-use Rattle.conditions.specs.UpToInvalid.{upToInvalid}
-use Rattle.conditions.proofs.Sought.{Sought, sought-none, sought-more, sought-fails, sought-done}
-use Rattle.conditions.proofs.UpToInvalid.{up-to-most}
+use Rattle.conditions.specs.Runs.{validWords, longest, longestRound}
+use Rattle.conditions.proofs.Longest.{round-once-more}
+use Rattle.conditions.proofs.Round.{length-validWords, validWords-append, validWords-period}
 use Rattle.conditions.proofs.run.within.Statement.{statement}
 use Rattle.conditions.proofs.run.within.Tie as tie
 
-abbrev Inv-loop : tie.InvT-loop
-Inv-loop b p words limit span at₀ i₀ at i =
-    (span ≡ limit + 1) × (at < length b) × Sought (leb (longestRound (validWords words p b)) limit) words limit i at b
+-- the ring once, and as many words more as the limit
+once-and-limit : (words limit p : ℕ) (b : List ℕ) → 11 * words ≡ length b → limit < words
+    → leb (longestRound (validWords words p b)) limit ≡ leb (longest (validWords (words + limit) p b)) limit
+once-and-limit words limit p b fill below =
+    let y = validWords limit p b in
+    let z = validWords (words - limit) (p + 11 * limit) b in
+    let count : limit + (words - limit) ≡ words = omega arith in
+    let cut : validWords words p b ≡ y ++ z = ap (λ (k : ℕ). validWords k p b) (sym count) ∙ validWords-append limit (words - limit) p b in
+    let again : validWords limit (p + 11 * words) b ≡ y = rw fill (validWords-period limit p b) in
+    rw (validWords-append words limit p b, again, cut) (round-once-more limit y z (omega (arith, length-validWords limit p b)))
 
-abbrev μ-loop : tie.MeasureT-loop
-μ-loop b p words limit span at₀ i₀ at i = words - i
+none-over-requires : tie.Need-none-over-requires
+none-over-requires c κs = search needs
 
-add-span : tie.Need-add-span Inv-loop μ-loop
-add-span c = omega arith
-
-loop-holds : tie.Need-loop-holds Inv-loop μ-loop
-loop-holds c =
-    let s = c .before in
-    let a = s .args in
-    (refl, s .pre .0 .1, sought-none (a .words) (a .limit) (a .b .now) (a .p) (s .pre .1 .0) (s .pre .1 .1))
-
-up-to-invalid-requires : tie.Need-up-to-invalid-requires Inv-loop μ-loop
-up-to-invalid-requires c κs =
-    let s = c .before .before .before in
-    (s .pre .0 .0, (c .before .loop .inv .1, omega (arith, c .before .loop .inv .0, s .pre .1)))
-
--- what the call answers, of limit + 1 words
-module _ (c : tie.After-up-to-invalid Inv-loop μ-loop) where
-  abbrev limit : ℕ
-  limit = c .before .before .before .before .args .limit
-
-  abbrev b : List ℕ
-  b = c .before .before .before .before .args .b .now
-
-  abbrev at : ℕ
-  at = c .before .before .loop .at
-
-  answered : upToInvalid (limit + 1) at b ≡ c .up-to-invalid .result
-  answered = sym (c .up-to-invalid .ensures ∙ ap (λ (k : ℕ). upToInvalid k at b) (c .before .before .loop .inv .0))
-
-  -- no more than that many
-  few : c .up-to-invalid .result ≤ limit + 1
-  few = omega (arith, answered, up-to-most at b (limit + 1))
-
-returns : tie.Need-returns Inv-loop μ-loop
+returns : tie.Need-returns
 returns c =
-    let call = c .before in
-    let l = call .before .before in
-    sought-fails _ (limit call) (b call) _ (l .loop .i) (at call) (l .loop .inv .2) (omega arith) (answered call ∙ c .if1 .taken)
-
-mul-place-after : tie.Need-mul-place-after Inv-loop μ-loop
-mul-place-after c = omega (arith, few (c .before))
-
-place-after-requires : tie.Need-place-after-requires Inv-loop μ-loop
-place-after-requires c κs = omega (arith, few (c .before))
-
-add-i : tie.Need-add-i Inv-loop μ-loop
-add-i c = omega (arith, few (c .before .before))
-
-loop-less : tie.Need-loop-less Inv-loop μ-loop
-loop-less c = omega arith
-
-loop-again : tie.Need-loop-again Inv-loop μ-loop
-loop-again c =
-    let call = c .before .before in
-    let l = call .before .before in
-    let some : 0 < length (b call) = omega arith in (
-      l .loop .inv .0,
-      rw (c .place-after .ensures) (mod-lt _ some),
-      rw (c .place-after .ensures)
-          (sought-more _ (limit call) (b call) _ (l .loop .i) (at call) (l .loop .inv .2) (call .up-to-invalid .result) (omega arith) (omega arith) (answered call)),
-    )
-
-returns-2 : tie.Need-returns-2 Inv-loop μ-loop
-returns-2 c =
-    let l = c .before in
-    let a = l .before .before .args in
-    sought-done (a .words) (a .limit) (a .b .now) _ (l .loop .i) (l .loop .at) (l .loop .inv .2) (omega arith)
+    let s = c .before .before in
+    let a = s .args in
+    rw (once-and-limit (a .words) (a .limit) (a .p) (a .b .now) (s .pre .1 .0) (s .pre .1 .1)) (c .none-over .ensures)
 
 pub within-spec : {M : Type 1} → statement M
-within-spec =
-    tie.close
-    (tie.spec
-    Inv-loop
-    μ-loop
-    add-span
-    loop-holds
-    up-to-invalid-requires
-    returns
-    mul-place-after
-    place-after-requires
-    add-i
-    loop-less
-    loop-again
-    returns-2)
+within-spec = tie.close (tie.spec none-over-requires returns)
