@@ -32,7 +32,7 @@ module _ (format : Format) (u : List ℕ) (size : length u ≡ numbersOf format 
 
   -- s has the block with its sum over the front of old
   module _ (old s : List ℕ) (e : s ≡ withSum (length u / 10) u ++ drop (length u) old) where
-    summed : take (length u) s ≡ withSum (blocks (numbersOf format)) u
+    pub summed : take (length u) s ≡ withSum (blocks (numbersOf format)) u
     summed =
         ap (take (length u)) e
         ∙ take-at (withSum (length u / 10) u) (drop (length u) old) (length u) (withSum-length (length u / 10) u block-ten)

@@ -1,86 +1,55 @@
--- `encoder::encode` meets its contract, test by test. Assumes nothing.
-use mathlib.Core.Path.{_≡_, sym, _∙_}
-use mathlib.Core.Bool.{true}
-use native.Mathlib.Omega.{arith}
+-- `encoder::encode` meets its contract, by those of the tests, the search and the writing. Assumes nothing.
+use mathlib.Core.Path.{_≡_, refl, subst}
 use borrow.Author.Needs.{needs}
-use borrow.Author.Tests.{not-true, not-false}
-use lib.ListN.{length}
-use Rattle.bits.specs.Bits.{allBits}
-use Rattle.bits.proofs.Tests.{holds}
-use Rattle.formats.specs.declared.format.Format.{Format}
-use Rattle.formats.specs.Numbers.{numbersOf}
-use Rattle.encoder.proofs.Steps.{length-refused, bits-refused, room-refused}
+use Rattle.encoder.specs.declared.Tested.{Tested}
+use Rattle.encoder.specs.Tested.{TestedFor}
 use Rattle.encoder.proofs.encode.Statement.{statement}
 use Rattle.encoder.proofs.encode.Tie as tie
 
-of-length-requires : tie.Need-of-length-requires
-of-length-requires c κs = search needs
+-- what the tests tell, by the answer's case
+told : (c : tie.After-test) (t : Tested) → c .test .result ≡ t
+    → let a = c .before .before .before .args in TestedFor (a .block .now) (a .output .now) t
+told c t e =
+    let a = c .before .before .before .args in
+    subst (TestedFor (a .block .now) (a .output .now)) e (c .test .ensures (a .output .now) refl)
 
-user-bits-requires : tie.Need-user-bits-requires
-user-bits-requires c κs = search needs
+test-requires : tie.Need-test-requires
+test-requires c κs = search needs
 
--- the block, the output and the format
-abbrev start : tie.After-user-bits → tie.Start
-start c = c .before .before .before .before
+enum-known-tested : tie.Need-enum-known-tested
+enum-known-tested c = search needs
 
-abbrev format : tie.After-user-bits → Format
-format c = c .before .of-length .result
+enum-known-tested-2 : tie.Need-enum-known-tested-2
+enum-known-tested-2 c = search needs
+
+first-pair-requires : tie.Need-first-pair-requires
+first-pair-requires c κs =
+    let clean = told (c .before .before .before) _ (c .before .tested2 .given .1) in
+    (clean .bits, clean .size)
+
+write-found-requires : tie.Need-write-found-requires
+write-found-requires c κs =
+    let tested = c .before .before .before in
+    (told (tested .before .before) _ (tested .tested2 .given .1), c .before .first-pair .ensures)
 
 returns : tie.Need-returns
-returns c =
-    let a = start (c .before) .args in
-    length-refused (format (c .before)) (a .block .now) (a .output .now) (c .before .before .of-length .ensures) (λ e. omega arith)
-
--- the length is the format's
-size : (c : tie.Else1) → length (start (c .before) .args .block .now) ≡ numbersOf (format (c .before)) .m
-size c = omega arith
-
-all-bits-requires : tie.Need-all-bits-requires
-all-bits-requires c κs = search needs
-
-returns-2 : tie.Need-returns-2
-returns-2 c =
-    let sized = c .before .before in
-    let a = start (sized .before) .args in
-    bits-refused (format (sized .before)) (a .block .now) (a .output .now) (size sized)
-    (sym (c .before .all-bits .ensures) ∙ not-true _ (c .if2 .taken))
-
--- every byte is 0 or 1
-all : (c : tie.Else2) → allBits (start (c .before .before .before) .args .block .now) ≡ true
-all c = sym (c .before .all-bits .ensures) ∙ not-false _ (c .if2 .left)
-
-telegram-bits-requires : tie.Need-telegram-bits-requires
-telegram-bits-requires c κs = search needs
-
-returns-3 : tie.Need-returns-3
-returns-3 c =
-    let bits = c .before .before in
-    let sized = bits .before .before in
-    let a = start (sized .before) .args in
-    room-refused (format (sized .before)) (a .block .now) (a .output .now) (size sized) (all bits) (omega arith)
-
-write-first-requires : tie.Need-write-first-requires
-write-first-requires c κs =
-    let bits = c .before .before .before in
-    record { bits = holds _ (all bits); size = size (bits .before .before); room = omega arith }
+returns c = told (c .before .before .before) _ (c .before .tested .given .1)
 
 same-length : tie.Need-same-length
 same-length c = search needs
 
-returns-4 : tie.Need-returns-4
-returns-4 c = c .before .before .write-first .ensures
+returns-2 : tie.Need-returns-2
+returns-2 c = search needs
 
 pub encode-spec : {M : Type 1} → statement M
 encode-spec =
     tie.close
     (tie.spec
-    of-length-requires
-    user-bits-requires
+    test-requires
+    enum-known-tested
+    enum-known-tested-2
+    first-pair-requires
+    write-found-requires
     returns
-    all-bits-requires
-    returns-2
-    telegram-bits-requires
-    returns-3
-    write-first-requires
     same-length
-    returns-4)
+    returns-2)
