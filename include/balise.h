@@ -35,6 +35,14 @@ extern "C" {
 uint64_t balise_encode(const uint8_t *block, size_t block_len, uint8_t *output,
                        size_t output_len);
 
+/* Encodes a block by the plain search, which forms and tests each pair in order.
+ * Parameters, answer and what is written are those of balise_encode, whatever the
+ * block. It is there to compare balise_encode with, and takes far longer: seconds for
+ * a block without a pair.
+ * Refusals: 1, 2, 3, 4. Refusal 4 has the count of pairs tried. */
+uint64_t balise_encode_plain(const uint8_t *block, size_t block_len, uint8_t *output,
+                             size_t output_len);
+
 /* Makes the well-formed telegram of a block of BALISE_USER_BITS, the scrambling
  * bits b and the extra shaping bits esb, without a search. With the user bits,
  * BALISE_READ_B and BALISE_READ_ESB of a reading it is the telegram that was
@@ -105,8 +113,8 @@ uint64_t balise_search(const uint8_t *capture, size_t capture_len);
 #define BALISE_SHORT 1
 #define BALISE_FORMAT(answer) ((unsigned)((uint64_t)(answer) >> 8 & 1))
 
-/* balise_encode: the scrambling bits, the extra shaping bits, and the pairs
- * tried up to this one; the last also of refusal 4. */
+/* balise_encode and balise_encode_plain: the scrambling bits, the extra shaping
+ * bits, and the pairs tried up to this one; the last also of refusal 4. */
 #define BALISE_ENCODED_B(answer) ((unsigned)((uint64_t)(answer) >> 9 & 0xfff))
 #define BALISE_ENCODED_ESB(answer) ((unsigned)((uint64_t)(answer) >> 21 & 0x3ff))
 #define BALISE_ENCODED_COUNT(answer) ((uint32_t)((uint64_t)(answer) >> 31 & 0x7fffff))

@@ -16,8 +16,18 @@ pub extern "C" fn balise_encode(block: &[u8], output: &mut [u8]) -> u64
     ensures answers { λ r. ⌜ r ≡ packed encodedSizes (encodedValues (encodeOf (now (block .entry)) (now (output .entry)) .answer)) ⌝ }
     ensures writes { λ _. ⌜ now (output .exit) ≡ encodeOf (now (block .entry)) (now (output .entry)) .output ⌝ }
 {
-    let answer = encoder::encode(block, output);
+    let answer = quick_encoder::encode(block, output);
     as_number::encoded(answer)
+}
+
+// Encodes a block by the plain search, which forms and tests each pair in order: the answers and bytes of balise_encode, for comparison.
+#[no_mangle]
+pub extern "C" fn balise_encode_plain(block: &[u8], output: &mut [u8]) -> u64
+    ensures plain_answers { λ r. ⌜ r ≡ packed encodedSizes (encodedValues (encodeOf (now (block .entry)) (now (output .entry)) .answer)) ⌝ }
+    ensures plain_writes { λ _. ⌜ now (output .exit) ≡ encodeOf (now (block .entry)) (now (output .entry)) .output ⌝ }
+{
+    let plain = encoder::encode(block, output);
+    as_number::encoded(plain)
 }
 
 // Checks a telegram.

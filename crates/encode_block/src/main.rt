@@ -10,7 +10,7 @@ use texts::reading::Progress;
 // Lines three and four.
 fn report(block: &[u8]) {
     let mut telegram = [0u8; Long::N];
-    let answer = encoder::encode(block, &mut telegram);
+    let answer = quick_encoder::encode(block, &mut telegram);
     match answer {
         Encoded::Pair {
             format,

@@ -54,6 +54,12 @@ mod exported {
             output: *mut u8,
             output_len: usize,
         ) -> u64;
+        pub fn balise_encode_plain(
+            block: *const u8,
+            block_len: usize,
+            output: *mut u8,
+            output_len: usize,
+        ) -> u64;
         pub fn balise_make(
             block: *const u8,
             block_len: usize,
@@ -208,6 +214,11 @@ fn answer(call: WithOutput, input: &[u8], output: &mut [u8]) -> Answer {
     })
 }
 
+/// What one of the encoders answers.
+fn encode_by(call: WithOutput, block: &[u8], output: &mut [u8]) -> Result<Encoded, Refusal> {
+    answer(call, block, output).result(Answer::encoded)
+}
+
 /// Encodes a block of [`Format::user_bits`], 830 or 210. The first pair's
 /// telegram goes into the front of `output`, which needs room for
 /// [`Format::telegram_bits`], 1023 or 341; [`MAX_TELEGRAM_BITS`] is enough for
@@ -215,7 +226,16 @@ fn answer(call: WithOutput, input: &[u8], output: &mut [u8]) -> Answer {
 ///
 /// Refuses with `Length`, `NotBit`, `OutputShort` and `NoPair`.
 pub fn encode(block: &[u8], output: &mut [u8]) -> Result<Encoded, Refusal> {
-    answer(exported::balise_encode, block, output).result(Answer::encoded)
+    encode_by(exported::balise_encode, block, output)
+}
+
+/// Encodes a block by the plain search, which forms and tests each pair in order.
+/// It answers and writes as [`encode`], whatever the block. It is there to compare
+/// that with, and takes far longer: seconds for a block without a pair.
+///
+/// Refuses with `Length`, `NotBit`, `OutputShort` and `NoPair`.
+pub fn encode_plain(block: &[u8], output: &mut [u8]) -> Result<Encoded, Refusal> {
+    encode_by(exported::balise_encode_plain, block, output)
 }
 
 /// Makes the well-formed telegram of a block of [`Format::user_bits`], 830 or 210,

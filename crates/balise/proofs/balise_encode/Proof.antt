@@ -1,4 +1,4 @@
--- `balise::balise_encode` meets its contract, by that of `encoder::encode`. Assumes nothing.
+-- `balise::balise_encode` meets its contract, by that of `quick_encoder::encode`. Assumes nothing.
 use mathlib.Core.Path.{sym, ap, _∙_}
 use borrow.Author.Needs.{needs}
 use Rattle.refusals.specs.Outcome.{Outcome}

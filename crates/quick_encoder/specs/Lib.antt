@@ -1,0 +1,3 @@
+pub mod Tail
+pub mod ShapedData
+pub mod PairFrom
