@@ -17,7 +17,7 @@ use Rattle.telegrams.specs.Telegram.{settings}
 use Rattle.telegrams.proofs.Buffers.Fronts.{lent-is}
 use Rattle.telegrams.proofs.Made.{length-settings, bits-settings}
 use Rattle.quick_encoder.specs.Tail.{tailOf}
-use Rattle.quick_encoder.proofs.AfterData.{data-kept, after-data, length-after, bits-after}
+use Rattle.quick_encoder.proofs.AfterData.{WrittenAfter, data-kept, after-data, length-after, bits-after}
 use Rattle.quick_encoder.proofs.search.first_tail.Statement.{statement}
 use Rattle.quick_encoder.proofs.search.first_tail.Tie as tie
 
@@ -60,24 +60,30 @@ sub-end c = omega (arith, last (c .before .before .before .before))
 slice-reshare-prefix-check-bits : tie.Need-slice-reshare-prefix-check-bits
 slice-reshare-prefix-check-bits c = search needs
 
+-- the settings are written after the shaped data
+put : (c : tie.After-write-settings) →
+    let a = c .before .before .before .before .args in
+    WrittenAfter (a .format) (c .before .before .telegram-bits .result) 25 (a .telegram .now) (settings (a .b) (a .esb)) (c .write-settings .last .1 .1 .0)
+put c =
+    let s = c .before .before .before .before in
+    record {
+      n-is = c .before .before .telegram-bits .ensures;
+      fits = s .pre .0;
+      size = length-settings (s .args .b) (s .args .esb);
+      written = c .write-settings .ensures;
+    }
+
 slice-aggregate-check-bits : tie.Need-slice-aggregate-check-bits
 slice-aggregate-check-bits c =
     let call = c .before .before .before in
-    let bits = call .before .before in
-    let s = bits .before .before in
-    let a = s .args in
-    sym (length-after (a .format) (bits .telegram-bits .result) (bits .telegram-bits .ensures) 25 (a .telegram .now) (settings (a .b) (a .esb))
-    (call .write-settings .last .1 .1 .0) (s .pre .0) (length-settings (a .b) (a .esb)) (call .write-settings .ensures) _ (settled bits))
+    sym (length-after (put call) _ (settled (call .before .before)))
 
 check-bits-requires : tie.Need-check-bits-requires
 check-bits-requires c κs =
     let call = c .before .before .before in
     let bits = call .before .before in
     let s = bits .before .before in
-    let a = s .args in
-    bits-after (a .format) (bits .telegram-bits .result) (bits .telegram-bits .ensures) 25 (a .telegram .now) (settings (a .b) (a .esb))
-    (call .write-settings .last .1 .1 .0) (s .pre .0) (length-settings (a .b) (a .esb)) (call .write-settings .ensures) _ (settled bits)
-    (s .pre .1 .0) (bits-settings (a .b) (a .esb))
+    bits-after (put call) _ (settled bits) (s .pre .1 .0) (bits-settings (s .args .b) (s .args .esb))
 
 tail-of-requires : tie.Need-tail-of-requires
 tail-of-requires c κs = search needs
@@ -90,16 +96,10 @@ returns c =
     let check = c .before in
     let call = check .before .before .before .before in
     let bits = call .before .before in
-    let s = bits .before .before in
-    let a = s .args in
-    let w = settings (a .b) (a .esb) in (
+    let a = bits .before .before .args in (
       c .tail-of .ensures
-          ∙ tail-is (a .format) _ _ (a .b) (a .esb) (valueOf (check .check-bits .result))
-          (after-data (a .format) (bits .telegram-bits .result) (bits .telegram-bits .ensures) 25 (a .telegram .now) w
-          (call .write-settings .last .1 .1 .0) (s .pre .0) (length-settings (a .b) (a .esb)) (call .write-settings .ensures) _ (settled bits))
-          (check .check-bits .ensures .0),
-      data-kept (a .format) (bits .telegram-bits .result) (bits .telegram-bits .ensures) 25 (a .telegram .now) w
-          (call .write-settings .last .1 .1 .0) (s .pre .0) (length-settings (a .b) (a .esb)) (call .write-settings .ensures),
+          ∙ tail-is (a .format) _ _ (a .b) (a .esb) (valueOf (check .check-bits .result)) (after-data (put call) _ (settled bits)) (check .check-bits .ensures .0),
+      data-kept (put call),
     )
 
 pub first-tail-spec : {M : Type 1} → statement M

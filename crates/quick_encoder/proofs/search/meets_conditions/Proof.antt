@@ -14,7 +14,7 @@ use Rattle.telegrams.proofs.Buffers.Fronts.{lent-is}
 use Rattle.quick_encoder.specs.declared.tail.Tail.{Tail}
 use Rattle.quick_encoder.specs.Tail.{tailBits}
 use Rattle.quick_encoder.specs.PairFrom.{meetsConditions}
-use Rattle.quick_encoder.proofs.AfterData.{data-kept, after-data, length-after, bits-after}
+use Rattle.quick_encoder.proofs.AfterData.{WrittenAfter, data-kept, after-data, length-after, bits-after}
 use Rattle.quick_encoder.proofs.search.meets_conditions.Statement.{statement}
 use Rattle.quick_encoder.proofs.search.meets_conditions.Tie as tie
 
@@ -54,21 +54,30 @@ slice-reshare-prefix-conditions c = search needs
 whole : (c : tie.After-telegram-bits) → c .telegram-bits .result - 110 + 110 ≡ c .telegram-bits .result
 whole c = omega (arith, last c)
 
+-- the tail is written after the shaped data
+put : (c : tie.After-write-tail) →
+    let a = c .before .before .before .before .args in
+    WrittenAfter (a .format) (c .before .before .telegram-bits .result) 110 (a .telegram .now) (tailBits (a .tail)) (c .write-tail .last .1 .0)
+put c =
+    let s = c .before .before .before .before in
+    record {
+      n-is = c .before .before .telegram-bits .ensures;
+      fits = s .pre .0;
+      size = length-tail (s .args .tail);
+      written = c .write-tail .ensures;
+    }
+
 slice-aggregate-conditions : tie.Need-slice-aggregate-conditions
 slice-aggregate-conditions c =
     let call = c .before .before .before in
-    let bits = call .before .before in
-    let s = bits .before .before in
-    sym (length-after (s .args .format) (bits .telegram-bits .result) (bits .telegram-bits .ensures) 110 (s .args .telegram .now) (tailBits (s .args .tail))
-    (call .write-tail .last .1 .0) (s .pre .0) (length-tail (s .args .tail)) (call .write-tail .ensures) (bits .telegram-bits .result) (whole bits))
+    sym (length-after (put call) _ (whole (call .before .before)))
 
 conditions-requires : tie.Need-conditions-requires
 conditions-requires c κs =
     let call = c .before .before .before in
     let bits = call .before .before in
     let s = bits .before .before in (
-      bits-after (s .args .format) (bits .telegram-bits .result) (bits .telegram-bits .ensures) 110 (s .args .telegram .now) (tailBits (s .args .tail))
-          (call .write-tail .last .1 .0) (s .pre .0) (length-tail (s .args .tail)) (call .write-tail .ensures) (bits .telegram-bits .result) (whole bits) (s .pre .1) (bits-tail (s .args .tail)),
+      bits-after (put call) _ (whole bits) (s .pre .1) (bits-tail (s .args .tail)),
       sym (slice-aggregate-conditions c) ∙ bits .telegram-bits .ensures,
     )
 
@@ -78,13 +87,9 @@ same-length c = search needs
 returns : tie.Need-returns
 returns c =
     let call = c .before .before .before .before in
-    let bits = call .before .before in
-    let s = bits .before .before in (
-      c .conditions .ensures
-          ∙ ap (meetsConditions (s .args .format)) (after-data (s .args .format) (bits .telegram-bits .result) (bits .telegram-bits .ensures) 110 (s .args .telegram .now)
-          (tailBits (s .args .tail)) (call .write-tail .last .1 .0) (s .pre .0) (length-tail (s .args .tail)) (call .write-tail .ensures) (bits .telegram-bits .result) (whole bits)),
-      data-kept (s .args .format) (bits .telegram-bits .result) (bits .telegram-bits .ensures) 110 (s .args .telegram .now) (tailBits (s .args .tail))
-          (call .write-tail .last .1 .0) (s .pre .0) (length-tail (s .args .tail)) (call .write-tail .ensures),
+    let bits = call .before .before in (
+      c .conditions .ensures ∙ ap (meetsConditions (bits .before .before .args .format)) (after-data (put call) _ (whole bits)),
+      data-kept (put call),
     )
 
 pub meets-conditions-spec : {M : Type 1} → statement M

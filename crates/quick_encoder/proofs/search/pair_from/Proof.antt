@@ -84,13 +84,15 @@ module _ (c : tie.After-shaping-for Inv-loop μ-loop) where
   abbrev s : tie.Start Inv-loop μ-loop
   s = start (sum at)
 
-  answered : c .shaping-for .result
-      ≡ shapingAt (shapingFrom (s .args .format) (shapedData (numbersOf (s .args .format)) (s .args .block .now) (at .loop .scrambling)) (at .loop .scrambling) (at .loop .from))
+  answered : let format = s .args .format in
+      let B = at .loop .scrambling in
+      c .shaping-for .result ≡ shapingAt (shapingFrom format (shapedData (numbersOf format) (s .args .block .now) B) B (at .loop .from))
   unfolding shapedData
   answered =
       let format = s .args .format in
+      let B = at .loop .scrambling in
       c .shaping-for .ensures
-      ∙ ap (λ (v : List ℕ). shapingAt (shapingFrom format (shaped (blocks (numbersOf format)) (scrambled (at .loop .scrambling) v)) (at .loop .scrambling) (at .loop .from)))
+      ∙ ap (λ (v : List ℕ). shapingAt (shapingFrom format (shaped (blocks (numbersOf format)) (scrambled B v)) B (at .loop .from)))
       (summed format (s .args .block .now) (s .pre .1 .0) _ (sum at .write-summed .last .1 .0) (sum at .write-summed .ensures))
 
 enum-known-found : tie.Need-enum-known-found Inv-loop μ-loop

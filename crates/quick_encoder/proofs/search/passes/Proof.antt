@@ -1,22 +1,24 @@
 -- `quick_encoder::search::passes` meets its contract: the words decide, or the conditions. Assumes nothing.
 use mathlib.Core.Path.{_≡_, refl, sym, _∙_}
 use mathlib.Core.List.{List}
-use Prim.Native.Nat.{ℕ, _-_, _≤_}
+use Prim.Native.Nat.{ℕ, _-_}
 use native.Mathlib.Omega.{arith}
 use borrow.Author.Needs.{needs}
 use borrow.Author.Tests.{not-true, not-false}
 use lib.ListN.{length, take}
 use lib.Seq.{length-take-le}
-use Rattle.formats.specs.declared.format.Format.{Format}
 use Rattle.formats.specs.Numbers.{numbersOf}
 use Rattle.quick_encoder.specs.Tail.{tailBits}
 use Rattle.quick_encoder.proofs.Completing.{words-fail, words-pass}
 use Rattle.quick_encoder.proofs.search.passes.Statement.{statement}
 use Rattle.quick_encoder.proofs.search.passes.Tie as tie
 
--- the shaped data in front of a buffer
-data-size : (format : Format) (t : List ℕ) → numbersOf format .n ≤ length t → length (take (numbersOf format .n - 110) t) ≡ numbersOf format .n - 110
-data-size format t h = length-take-le (numbersOf format .n - 110) t (omega arith)
+-- the shaped data in front of the buffer, and its size
+abbrev shapedIn : tie.Start → List ℕ
+shapedIn s = take (numbersOf (s .args .format) .n - 110) (s .args .telegram .now)
+
+data-size : (s : tie.Start) → length (shapedIn s) ≡ numbersOf (s .args .format) .n - 110
+data-size s = length-take-le (numbersOf (s .args .format) .n - 110) (s .args .telegram .now) (omega (arith, s .pre .0))
 
 all-words-requires : tie.Need-all-words-requires
 all-words-requires c κs = search needs
@@ -24,9 +26,10 @@ all-words-requires c κs = search needs
 returns : tie.Need-returns
 returns c =
     let words = c .before in
-    let s = words .before .before in
-    let a = s .args in
-    (sym (words-fail (a .format) (take (numbersOf (a .format) .n - 110) (a .telegram .now)) (tailBits (a .tail)) (data-size (a .format) (a .telegram .now) (s .pre .0)) (sym (words .all-words .ensures) ∙ not-true _ (c .if1 .taken))), refl)
+    let s = words .before .before in (
+      sym (words-fail (s .args .format) (shapedIn s) (tailBits (s .args .tail)) (data-size s) (sym (words .all-words .ensures) ∙ not-true _ (c .if1 .taken))),
+      refl,
+    )
 
 meets-conditions-requires : tie.Need-meets-conditions-requires
 meets-conditions-requires c κs = search needs
@@ -40,9 +43,8 @@ returns-2 c =
     let left = call .before .before in
     let words = left .before in
     let s = words .before .before in
-    let a = s .args in (
-      call .meets-conditions .ensures .0
-          ∙ sym (words-pass (a .format) (take (numbersOf (a .format) .n - 110) (a .telegram .now)) (tailBits (a .tail)) (data-size (a .format) (a .telegram .now) (s .pre .0)) (sym (words .all-words .ensures) ∙ not-false _ (left .if1 .left))),
+    let all = sym (words .all-words .ensures) ∙ not-false _ (left .if1 .left) in (
+      call .meets-conditions .ensures .0 ∙ sym (words-pass (s .args .format) (shapedIn s) (tailBits (s .args .tail)) (data-size s) all),
       call .meets-conditions .ensures .1,
     )
 

@@ -47,8 +47,9 @@ returns c =
     let word = c .before in
     let s = word .before .before .before in
     let a = s .args in
+    let absent = sym (word .in-table .ensures) ∙ not-true _ (c .if1 .taken) in
     sym (ap shapingAt (shaping-none (a .format) (shapedOf word) (a .b) (a .esb) (omega (arith, s .pre .1 .1))
-    λ e below. first-word-drops (a .format) (shapedOf word) (a .b) e (shaped-size word) (s .pre .1 .1 .0) (sym (word .in-table .ensures) ∙ not-true _ (c .if1 .taken))))
+    λ e below. first-word-drops (a .format) (shapedOf word) (a .b) e (shaped-size word) (s .pre .1 .1 .0) absent))
 
 write-shaped-data-requires : tie.Need-write-shaped-data-requires
 write-shaped-data-requires c κs = search needs
