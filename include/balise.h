@@ -31,14 +31,15 @@ extern "C" {
  * into its front, and the rest is kept. A refusal keeps every byte.
  * Answer: number, format, BALISE_ENCODED_B, _ESB and _COUNT.
  * Refusals: 1, 2, 3, 4. Refusal 4 has the count of pairs tried.
- * Most long blocks take some 50 milliseconds; refusal 4 takes some 10 seconds. */
+ * Pairs that cannot be proper are passed over, and counted all the same: a block
+ * takes far less than a millisecond as a rule, and refusal 4 some ten. */
 uint64_t balise_encode(const uint8_t *block, size_t block_len, uint8_t *output,
                        size_t output_len);
 
 /* Encodes a block by the plain search, which forms and tests each pair in order.
  * Parameters, answer and what is written are those of balise_encode, whatever the
- * block. It is there to compare balise_encode with, and takes far longer: seconds for
- * a block without a pair.
+ * block, by proof. It is there to compare balise_encode with, and takes some thousand
+ * times as long: seconds for a block without a pair.
  * Refusals: 1, 2, 3, 4. Refusal 4 has the count of pairs tried. */
 uint64_t balise_encode_plain(const uint8_t *block, size_t block_len, uint8_t *output,
                              size_t output_len);

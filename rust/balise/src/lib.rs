@@ -224,14 +224,18 @@ fn encode_by(call: WithOutput, block: &[u8], output: &mut [u8]) -> Result<Encode
 /// [`Format::telegram_bits`], 1023 or 341; [`MAX_TELEGRAM_BITS`] is enough for
 /// both. A refusal keeps every byte.
 ///
+/// Pairs that cannot be proper are passed over, and counted all the same: a block
+/// takes far less than a millisecond as a rule, and `NoPair` some ten.
+///
 /// Refuses with `Length`, `NotBit`, `OutputShort` and `NoPair`.
 pub fn encode(block: &[u8], output: &mut [u8]) -> Result<Encoded, Refusal> {
     encode_by(exported::balise_encode, block, output)
 }
 
 /// Encodes a block by the plain search, which forms and tests each pair in order.
-/// It answers and writes as [`encode`], whatever the block. It is there to compare
-/// that with, and takes far longer: seconds for a block without a pair.
+/// It answers and writes as [`encode`], whatever the block, by proof. It is there to
+/// compare that with, and takes some thousand times as long: seconds for a block
+/// without a pair.
 ///
 /// Refuses with `Length`, `NotBit`, `OutputShort` and `NoPair`.
 pub fn encode_plain(block: &[u8], output: &mut [u8]) -> Result<Encoded, Refusal> {

@@ -50,7 +50,7 @@ module _ (c : tie.After-limit-at Inv-loop μ-loop) where
   format = c .before .before .before .before .args .format
 
   most : c .limit-at .result ≤ 10
-  most = omega (arith, c .limit-at .ensures, limit-most format (c .before .before .loop .p))
+  most = rw (c .limit-at .ensures) (limit-most format _)
 
   many : 210 ≤ numbersOf format .m
   many = block-between format .0
