@@ -2,7 +2,6 @@ pub mod ShapedRuns
 pub mod Tails
 pub mod Changes
 pub mod Counting
-pub mod AfterData
 pub mod Completing
 pub mod Dropped
 pub mod OneScrambling

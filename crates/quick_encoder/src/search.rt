@@ -16,7 +16,6 @@ use crate::change;
 use crate::data;
 use crate::tail;
 use crate::tail::Tail;
-use cyclic::check_bits;
 use encoder::search::Search;
 use formats::format;
 use formats::format::Format;
@@ -64,11 +63,7 @@ fn first_tail(format: Format, b: u16, esb: u16, telegram: &mut [u8]) -> Tail
     ensures { λ r. ⌜ tailBits r ≡ tailOf (numbersOf format) (take (numbersOf format .n - 110) (now (telegram .entry))) b esb ⌝ }
     ensures { λ _. ⌜ take (numbersOf format .n - 110) (now (telegram .exit)) ≡ take (numbersOf format .n - 110) (now (telegram .entry)) ⌝ }
 {
-    let n = format::telegram_bits(format);
-    let at = n - 110;
-    making::write_settings(b, esb, &mut telegram[at..]);
-    let end = n - 85;
-    let check = check_bits::check_bits(format, &telegram[..end]);
+    let check = making::settle(format, b, esb, telegram);
     tail::tail_of(b, esb, check)
 }
 

@@ -2,11 +2,12 @@
 // telegram, left to right").
 ghost use mathlib.Core.Path.{_≡_};
 ghost use mathlib.Core.List.{_++_};
-ghost use Prim.Native.Nat.{_-_, _*_, _/_, _≤_};
+ghost use Prim.Native.Nat.{_-_, _*_, _/_, _^_, _≤_, _<_};
 ghost use lib.Dec.{T};
 ghost use lib.ListN.{length, take, drop};
-ghost use Rattle.bits.specs.Bits.{allBits};
+ghost use Rattle.bits.specs.Bits.{allBits, bitsOf};
 ghost use Rattle.formats.specs.Numbers.{numbersOf, blocks};
+ghost use Rattle.formats.specs.Value.{valueOf};
 ghost use Rattle.scrambling.specs.Scrambling.{scrambled};
 ghost use Rattle.scrambling.specs.Sum.{withSum};
 ghost use Rattle.cyclic.specs.Check.{checkBits};
@@ -15,6 +16,7 @@ use cyclic::check_bits;
 use formats::format;
 use formats::format::Format;
 use formats::format::Long;
+use formats::register::Register;
 
 // The words of the first k blocks of ten bits of scrambled, over the front of out.
 pub fn shape(scrambled: &[u8], k: usize, out: &mut [u8])
@@ -74,18 +76,31 @@ pub fn write_settings(b: u16, esb: u16, out: &mut [u8])
     bits::write_number(&mut out[15..], 10, esb as u32);
 }
 
+// After the shaped data: control bits, scrambling bits and extra shaping bits. The answer is the check bits of all that then stands before
+// them.
+pub fn settle(format: Format, b: u16, esb: u16, telegram: &mut [u8]) -> Register
+    requires { ⌜ numbersOf format .n ≤ length (now telegram) ⌝ }
+    requires { ⌜ T (allBits (take (numbersOf format .n - 110) (now telegram))) ⌝ }
+    ensures { λ r. ⌜ bitsOf 85 (valueOf r) ≡ checkBits (numbersOf format) (take (numbersOf format .n - 110) (now (telegram .entry)) ++ settings b esb) ⌝ }
+    ensures { λ r. ⌜ valueOf r < 2 ^ 85 ⌝ }
+    ensures { λ _. ⌜ now (telegram .exit) ≡ (take (numbersOf format .n - 110) (now (telegram .entry)) ++ settings b esb) ++ drop (numbersOf format .n - 85) (now (telegram .entry)) ⌝ }
+{
+    let n = format::telegram_bits(format);
+    let at = n - 110;
+    write_settings(b, esb, &mut telegram[at..]);
+    let end = n - 85;
+    check_bits::check_bits(format, &telegram[..end])
+}
+
 // After the shaped data: control bits, scrambling bits, extra shaping bits and the check bits of all before them.
 pub fn complete(format: Format, b: u16, esb: u16, telegram: &mut [u8])
     requires { ⌜ numbersOf format .n ≤ length (now telegram) ⌝ }
     requires { ⌜ T (allBits (take (numbersOf format .n - 110) (now telegram))) ⌝ }
     ensures { λ _. ⌜ now (telegram .exit) ≡ (take (numbersOf format .n - 110) (now (telegram .entry)) ++ settings b esb) ++ (checkBits (numbersOf format) (take (numbersOf format .n - 110) (now (telegram .entry)) ++ settings b esb) ++ drop (numbersOf format .n) (now (telegram .entry))) ⌝ }
 {
-    let n = format::telegram_bits(format);
-    let at = n - 110;
-    write_settings(b, esb, &mut telegram[at..]);
-    let end = n - 85;
-    let register = check_bits::check_bits(format, &telegram[..end]);
-    check_bits::write_check_bits(register, &mut telegram[end..]);
+    let register = settle(format, b, esb, telegram);
+    let checked = format::telegram_bits(format) - 85;
+    check_bits::write_check_bits(register, &mut telegram[checked..]);
 }
 
 // The telegram of a block of user bits, over the front of out.

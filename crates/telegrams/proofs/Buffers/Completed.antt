@@ -20,7 +20,7 @@ use Rattle.cyclic.proofs.Laws.{Facts}
 use Rattle.cyclic.proofs.Machine.Lists.{check-list}
 use Rattle.telegrams.specs.Telegram.{shaped, shapedData, settings, unchecked, telegramOf}
 use Rattle.telegrams.proofs.Made.{length-settings, bits-settings, length-shapedData, length-made, made-data}
-use Rattle.telegrams.proofs.Buffers.Fronts.{lent, back, front-more}
+use Rattle.telegrams.proofs.Buffers.Fronts.{lent, back, front-more, put}
 
 -- ---- the buffer t that has the shaped data over the front of old
 
@@ -48,48 +48,42 @@ module _ (F : Numbers) (S : Sizes F) (u : List ℕ) (B : ℕ) (old t : List ℕ)
 
 -- ---- the settings after the first n - 110 bits of t, and the check bits after them
 
-module _ (format : Format) (n : ℕ) (n-is : n ≡ numbersOf format .n) (t : List ℕ) (B esb : ℕ) (fits : numbersOf format .n ≤ length t) where
-  data-size : length (take (n - 110) t) ≡ n - 110
-  data-size = length-take-le (n - 110) t (omega arith)
-
-  settled-size : length (take (n - 110) t ++ settings B esb) ≡ n - 85
+module _ (format : Format) (t : List ℕ) (B esb : ℕ) (fits : numbersOf format .n ≤ length t) where
+  settled-size : length (take (numbersOf format .n - 110) t ++ settings B esb) ≡ numbersOf format .n - 85
   settled-size =
-      length-append (take (n - 110) t) (settings B esb) ∙ omega (arith, data-size, length-settings B esb, sizesOf format .n-is)
-
-  settled-bits : T (allBits (take (numbersOf format .n - 110) t)) → T (allBits (take (n - 110) t ++ settings B esb))
-  settled-bits h =
-      allBits-append (take (n - 110) t) (settings B esb) (subst⁻¹ (λ (m : ℕ). T (allBits (take (m - 110) t))) n-is h) (bits-settings B esb)
+      length-append (take (numbersOf format .n - 110) t) (settings B esb)
+      ∙ omega (arith, length-take-le (numbersOf format .n - 110) t (omega arith), length-settings B esb, sizesOf format .n-is)
 
   -- left is what the callee that writes the settings leaves
-  module _ (left : List ℕ) (written : left ≡ settings B esb ++ drop 25 (lent (n - 110) t)) where
-    settled : back (n - 110) t left ≡ (take (n - 110) t ++ settings B esb) ++ drop (n - 85) t
+  module _ (n : ℕ) (n-is : n ≡ numbersOf format .n) (left : List ℕ) (written : left ≡ settings B esb ++ drop 25 (lent (n - 110) t)) where
+    pub settled : back (n - 110) t left ≡ (take (numbersOf format .n - 110) t ++ settings B esb) ++ drop (numbersOf format .n - 85) t
     settled =
-        let place : n - 110 + 25 ≡ n - 85 = omega (arith, sizesOf format .n-is) in
-        front-more (take (n - 110) t) (settings B esb) t t left (n - 110) 25 data-size (sym (take-append-drop (n - 110) t)) written
-        ∙ ap (λ (i : ℕ). (take (n - 110) t ++ settings B esb) ++ drop i t) place
+        let place : n - 110 + 25 ≡ numbersOf format .n - 85 = omega (arith, sizesOf format .n-is) in
+        put (n - 110) 25 t (settings B esb) left (omega arith) (length-settings B esb) written
+        ∙ ap₂ (λ (m i : ℕ). (take (m - 110) t ++ settings B esb) ++ drop i t) n-is place
 
-    settled-front : take (n - 85) (back (n - 110) t left) ≡ take (n - 110) t ++ settings B esb
-    settled-front = front-is (take (n - 110) t ++ settings B esb) _ (back (n - 110) t left) (n - 85) settled-size settled
+    pub settled-front : take (n - 85) (back (n - 110) t left) ≡ take (numbersOf format .n - 110) t ++ settings B esb
+    settled-front =
+        front-is (take (numbersOf format .n - 110) t ++ settings B esb) _ (back (n - 110) t left) (n - 85)
+        (settled-size ∙ omega arith) settled
 
     pub bits-before : T (allBits (take (numbersOf format .n - 110) t)) → T (allBits (take (n - 85) (back (n - 110) t left)))
-    bits-before h = rw settled-front (settled-bits h)
+    bits-before h = rw settled-front (allBits-append (take (numbersOf format .n - 110) t) (settings B esb) h (bits-settings B esb))
 
-    -- y is the number of the check bits, and last what the callee that writes them leaves
-    pub completed : (y : ℕ) (last : List ℕ) → y ≡ numberOf (checkBits (numbersOf format) (take (n - 85) (back (n - 110) t left)))
-        → last ≡ bitsOf 85 y ++ drop 85 (lent (n - 85) (back (n - 110) t left))
-        → back (n - 85) (back (n - 110) t left) last
-        ≡ (take (numbersOf format .n - 110) t ++ settings B esb)
-        ++ (checkBits (numbersOf format) (take (numbersOf format .n - 110) t ++ settings B esb) ++ drop (numbersOf format .n) t)
-    completed y last number checked =
-        let F = numbersOf format in
-        let d = take (n - 110) t ++ settings B esb in
-        let end : n - 85 + 85 ≡ n = omega (arith, sizesOf format .n-is) in
-        let check : bitsOf 85 y ≡ checkBits F d =
-        check-list format d (number ∙ ap (λ (l : List ℕ). numberOf (checkBits F l)) settled-front) in
-        front-more d (bitsOf 85 y) t (back (n - 110) t left) last (n - 85) 85 settled-size settled checked
-        ∙ append-assoc d (bitsOf 85 y) (drop (n - 85 + 85) t)
-        ∙ ap₂ (λ (c : List ℕ) (i : ℕ). d ++ (c ++ drop i t)) check end
-        ∙ ap (λ (m : ℕ). (take (m - 110) t ++ settings B esb) ++ (checkBits F (take (m - 110) t ++ settings B esb) ++ drop m t)) n-is
+  -- s has the settings, y is the number of the check bits, and last what the callee that writes them leaves
+  pub completed : (checked y : ℕ) (s last : List ℕ) → checked ≡ numbersOf format .n - 85
+      → s ≡ (take (numbersOf format .n - 110) t ++ settings B esb) ++ drop (numbersOf format .n - 85) t
+      → bitsOf 85 y ≡ checkBits (numbersOf format) (take (numbersOf format .n - 110) t ++ settings B esb)
+      → last ≡ bitsOf 85 y ++ drop 85 (lent checked s)
+      → back checked s last
+      ≡ (take (numbersOf format .n - 110) t ++ settings B esb)
+      ++ (checkBits (numbersOf format) (take (numbersOf format .n - 110) t ++ settings B esb) ++ drop (numbersOf format .n) t)
+  completed checked y s last place e check written =
+      let d = take (numbersOf format .n - 110) t ++ settings B esb in
+      let end : checked + 85 ≡ numbersOf format .n = omega (arith, sizesOf format .n-is) in
+      front-more d (bitsOf 85 y) t s last checked 85 (settled-size ∙ sym place) (e ∙ ap (λ (i : ℕ). d ++ drop i t) (sym place)) written
+      ∙ append-assoc d (bitsOf 85 y) (drop (checked + 85) t)
+      ∙ ap₂ (λ (c : List ℕ) (i : ℕ). d ++ (c ++ drop i t)) check end
 
 -- ---- the telegram
 

@@ -45,7 +45,7 @@ group-more f w v size j s old out left next e next-is written =
 
 -- the callee puts w in the place of the k after the first a of s
 module _ (a k : ℕ) (s w left : List ℕ) (within : a ≤ length s) (size : length w ≡ k) (written : left ≡ w ++ drop k (lent a s)) where
-  put : back a s left ≡ (take a s ++ w) ++ drop (a + k) s
+  pub put : back a s left ≡ (take a s ++ w) ++ drop (a + k) s
   put = front-more (take a s) w s s left a k (length-take-le a s within) (sym (take-append-drop a s)) written
 
   -- those stand after the first a

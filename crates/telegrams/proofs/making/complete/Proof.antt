@@ -1,57 +1,35 @@
--- `telegrams::making::complete` meets its contract: the settings are written after the first n - 110 bits, and after them the check bits of
--- all before. Assumes nothing.
-use mathlib.Core.Path.{sym}
-use Prim.Native.Nat.{_≤_}
+-- `telegrams::making::complete` meets its contract: after the settings stand the check bits of all before. Assumes nothing.
+use mathlib.Core.Path.{ap, _∙_}
+use Prim.Native.Nat.{ℕ, _-_, _≤_}
 use native.Mathlib.Omega.{arith}
 use borrow.Author.Needs.{needs}
 use lib.ListN.{length-drop}
-use lib.Seq.{length-take-le}
+use Rattle.formats.specs.Numbers.{numbersOf}
 use Rattle.formats.specs.Value.{valueOf}
 use Rattle.formats.proofs.Sizes.{sizesOf}
 use Rattle.telegrams.proofs.Buffers.Fronts.{lent-is}
-use Rattle.telegrams.proofs.Buffers.Completed.{bits-before, completed}
+use Rattle.telegrams.proofs.Buffers.Completed.{completed}
 use Rattle.telegrams.proofs.making.complete.Statement.{statement}
 use Rattle.telegrams.proofs.making.complete.Tie as tie
 
--- the last 110 bits
-last : (c : tie.After-telegram-bits) → 110 ≤ c .telegram-bits .result
-last c = omega (arith, sizesOf (c .before .before .args .format) .n-is)
+settle-requires : tie.Need-settle-requires
+settle-requires c κs = search needs
 
 telegram-bits-requires : tie.Need-telegram-bits-requires
 telegram-bits-requires c κs = search needs
 
-sub-at : tie.Need-sub-at
-sub-at c = last c
+-- the settings end 85 bits before the telegram does
+abbrev call : tie.After-telegram-bits → tie.After-settle
+call c = c .before .before .before
 
-sub-write-settings : tie.Need-sub-write-settings
-sub-write-settings c = search needs
+abbrev start : tie.After-settle → tie.Start
+start c = c .before .before .before
 
-part-write-settings-start : tie.Need-part-write-settings-start
-part-write-settings-start c = search needs
+last : (c : tie.After-telegram-bits) → 85 ≤ c .telegram-bits .result
+last c = omega (arith, sizesOf (start (call c) .args .format) .n-is, c .telegram-bits .ensures)
 
-part-write-settings-end : tie.Need-part-write-settings-end
-part-write-settings-end c = search needs
-
-write-settings-requires : tie.Need-write-settings-requires
-write-settings-requires c κs = simp (lent-is, length-drop) (omega (arith, last (c .before)))
-
-sub-end : tie.Need-sub-end
-sub-end c = omega (arith, last (c .before .before .before .before))
-
-slice-reshare-prefix-check-bits : tie.Need-slice-reshare-prefix-check-bits
-slice-reshare-prefix-check-bits c = search needs
-
-slice-aggregate-check-bits : tie.Need-slice-aggregate-check-bits
-slice-aggregate-check-bits c = sym (length-take-le _ _ (omega (arith, last (c .before .before .before .before .before))))
-
-check-bits-requires : tie.Need-check-bits-requires
-check-bits-requires c κs =
-    let call = c .before .before .before in
-    let bits = call .before .before in
-    let start = bits .before .before in
-    let a = start .args in
-    bits-before (a .format) (bits .telegram-bits .result) (bits .telegram-bits .ensures) (a .telegram .now) (a .b) (a .esb) (start .pre .0)
-    (call .write-settings .last .1 .1 .0) (call .write-settings .ensures) (start .pre .1)
+sub-checked : tie.Need-sub-checked
+sub-checked c = last c
 
 sub-write-check-bits : tie.Need-sub-write-check-bits
 sub-write-check-bits c = search needs
@@ -63,7 +41,9 @@ part-write-check-bits-end : tie.Need-part-write-check-bits-end
 part-write-check-bits-end c = search needs
 
 write-check-bits-requires : tie.Need-write-check-bits-requires
-write-check-bits-requires c κs = simp (lent-is, length-drop) (omega (arith, last (c .before .before .before .before .before .before .before)))
+write-check-bits-requires c κs =
+    let bits = c .before in
+    simp (lent-is, length-drop) (omega (arith, last bits, start (call bits) .pre .0, call bits .settle .kept .1 .1 .1 .0, bits .telegram-bits .ensures))
 
 same-length : tie.Need-same-length
 same-length c = search needs
@@ -71,29 +51,20 @@ same-length c = search needs
 returns : tie.Need-returns
 returns c =
     let check = c .before .before in
-    let register = check .before .before in
-    let call = register .before .before .before .before in
-    let bits = call .before .before in
-    let start = bits .before .before in
-    let a = start .args in
-    completed (a .format) (bits .telegram-bits .result) (bits .telegram-bits .ensures) (a .telegram .now) (a .b) (a .esb) (start .pre .0)
-    (call .write-settings .last .1 .1 .0) (call .write-settings .ensures) (valueOf (register .check-bits .result))
-    (check .write-check-bits .last .1 .0) (register .check-bits .ensures .0) (check .write-check-bits .ensures)
+    let bits = check .before .before in
+    let s = call bits in
+    let a = start s .args in
+    completed (a .format) (a .telegram .now) (a .b) (a .esb) (start s .pre .0) (bits .telegram-bits .result - 85) (valueOf (s .settle .result))
+    (s .settle .last .1 .1 .1 .0) (check .write-check-bits .last .1 .0) (ap (λ (n : ℕ). n - 85) (bits .telegram-bits .ensures))
+    (s .settle .ensures .1 .1) (s .settle .ensures .0) (check .write-check-bits .ensures)
 
 pub complete-spec : {M : Type 1} → statement M
 complete-spec =
     tie.close
     (tie.spec
+    settle-requires
     telegram-bits-requires
-    sub-at
-    sub-write-settings
-    part-write-settings-start
-    part-write-settings-end
-    write-settings-requires
-    sub-end
-    slice-reshare-prefix-check-bits
-    slice-aggregate-check-bits
-    check-bits-requires
+    sub-checked
     sub-write-check-bits
     part-write-check-bits-start
     part-write-check-bits-end
