@@ -1,13 +1,13 @@
 -- The buffer while a telegram is made: the shaped data stands in front, then the settings come after it, then the check bits, and that is the
 -- telegram. Assumes nothing.
-use mathlib.Core.Path.{_≡_, sym, ap, ap₂, subst⁻¹, _∙_}
+use mathlib.Core.Path.{_≡_, sym, ap, ap₂, _∙_}
 use mathlib.Core.List.{List, _++_, append-assoc}
 use Prim.Native.Nat.{ℕ, _+_, _-_, _*_, _≤_}
 use native.Mathlib.Omega.{arith}
 use lib.Dec.{T}
-use lib.ListN.{length, take, drop, length-append, take-append-drop}
+use lib.ListN.{length, take, drop, length-append}
 use lib.Seq.{take-append-le, length-take-le}
-use Rattle.bits.specs.Bits.{allBits, numberOf, bitsOf}
+use Rattle.bits.specs.Bits.{allBits, bitsOf}
 use Rattle.bits.proofs.AllBits.{allBits-append}
 use Rattle.bits.proofs.Parts.{front-is, rest-is, drop-from}
 use Rattle.formats.specs.declared.format.Format.{Format}
@@ -17,7 +17,6 @@ use Rattle.scrambling.specs.Scrambling.{scrambled}
 use Rattle.scrambling.specs.Sum.{withSum}
 use Rattle.cyclic.specs.Check.{checkBits}
 use Rattle.cyclic.proofs.Laws.{Facts}
-use Rattle.cyclic.proofs.Machine.Lists.{check-list}
 use Rattle.telegrams.specs.Telegram.{shaped, shapedData, settings, unchecked, telegramOf}
 use Rattle.telegrams.proofs.Made.{length-settings, bits-settings, length-shapedData, length-made, made-data}
 use Rattle.telegrams.proofs.Buffers.Fronts.{lent, back, front-more, put}

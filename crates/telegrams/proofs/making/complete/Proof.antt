@@ -1,10 +1,9 @@
 -- `telegrams::making::complete` meets its contract: after the settings stand the check bits of all before. Assumes nothing.
-use mathlib.Core.Path.{ap, _∙_}
+use mathlib.Core.Path.{ap}
 use Prim.Native.Nat.{ℕ, _-_, _≤_}
 use native.Mathlib.Omega.{arith}
 use borrow.Author.Needs.{needs}
 use lib.ListN.{length-drop}
-use Rattle.formats.specs.Numbers.{numbersOf}
 use Rattle.formats.specs.Value.{valueOf}
 use Rattle.formats.proofs.Sizes.{sizesOf}
 use Rattle.telegrams.proofs.Buffers.Fronts.{lent-is}
