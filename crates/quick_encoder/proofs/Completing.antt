@@ -1,7 +1,7 @@
 -- The shaped data d completed by B and esb: the ten words of what comes after it are tested first, then the conditions of the whole.
 -- Assumes nothing.
 use mathlib.Core.Path.{_≡_, sym, ap, _∙_}
-use mathlib.Core.Bool.{Bool, true, false, _&&_}
+use mathlib.Core.Bool.{Bool, _&&_}
 use mathlib.Core.List.{List, _++_}
 use Prim.Native.Nat.{ℕ, _+_, _-_, _*_, _<_}
 use lib.ListN.{length, take}
@@ -27,13 +27,9 @@ module _ (format : Format) (d w : List ℕ) (size : length d ≡ numbersOf forma
   unfolding madeProper
   words-then-conditions = ap (λ (l : List ℕ). allWords 10 l && meetsConditions format (d ++ w)) (drop-at d w (numbersOf format .n - 110) size)
 
-  -- a word that is not in the table decides
-  pub words-fail : allWords 10 w ≡ false → madeProper format (d ++ w) ≡ false
-  words-fail e = words-then-conditions ∙ ap (λ (t : Bool). t && meetsConditions format (d ++ w)) e
-
-  -- where all are, the conditions do
-  pub words-pass : allWords 10 w ≡ true → madeProper format (d ++ w) ≡ meetsConditions format (d ++ w)
-  words-pass e = words-then-conditions ∙ ap (λ (t : Bool). t && meetsConditions format (d ++ w)) e
+  -- a word that is not in the table decides; where all are, the conditions do
+  pub words-decide : (all : Bool) → allWords 10 w ≡ all → madeProper format (d ++ w) ≡ all && meetsConditions format (d ++ w)
+  words-decide all e = words-then-conditions ∙ ap (λ (t : Bool). t && meetsConditions format (d ++ w)) e
 
 -- the shaped data of a block and B, completed by esb, is the telegram of the block, B and esb
 completed-made : (format : Format) (u : List ℕ) (B esb : ℕ)

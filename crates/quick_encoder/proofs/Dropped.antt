@@ -19,7 +19,7 @@ use Rattle.encoder.specs.Searched.{madeProper}
 use Rattle.quick_encoder.specs.Tail.{tailOf}
 use Rattle.quick_encoder.specs.ShapedData.{dataWithin}
 use Rattle.quick_encoder.specs.PairFrom.{meetsConditions, completes}
-use Rattle.quick_encoder.proofs.Completing.{words-fail}
+use Rattle.quick_encoder.proofs.Completing.{words-decide}
 use Rattle.quick_encoder.proofs.ShapedRuns.{data-within}
 use Rattle.quick_encoder.proofs.Tails.{first-word}
 
@@ -29,7 +29,7 @@ module _ (format : Format) (d : List ℕ) (B esb : ℕ) (size : length d ≡ 11 
   unfolding completes overGroups isWord
   first-word-drops small absent =
       let tail = tailOf (numbersOf format) d B esb in
-      words-fail format d tail (omega (arith, sizesOf format .n-is))
+      words-decide format d tail (omega (arith, sizesOf format .n-is)) false
       (ap (λ (t : Bool). t && allWords 9 (drop 11 tail)) (ap inTable (first-word (numbersOf format) d B esb small) ∙ absent))
 
   -- and so does a run in the shaped data

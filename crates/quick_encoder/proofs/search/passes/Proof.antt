@@ -1,5 +1,6 @@
 -- `quick_encoder::search::passes` meets its contract: the words decide, or the conditions. Assumes nothing.
 use mathlib.Core.Path.{_≡_, refl, sym, _∙_}
+use mathlib.Core.Bool.{true, false}
 use mathlib.Core.List.{List}
 use Prim.Native.Nat.{ℕ, _-_}
 use native.Mathlib.Omega.{arith}
@@ -9,7 +10,7 @@ use lib.ListN.{length, take}
 use lib.Seq.{length-take-le}
 use Rattle.formats.specs.Numbers.{numbersOf}
 use Rattle.quick_encoder.specs.Tail.{tailBits}
-use Rattle.quick_encoder.proofs.Completing.{words-fail, words-pass}
+use Rattle.quick_encoder.proofs.Completing.{words-decide}
 use Rattle.quick_encoder.proofs.search.passes.Statement.{statement}
 use Rattle.quick_encoder.proofs.search.passes.Tie as tie
 
@@ -27,7 +28,7 @@ returns : tie.Need-returns
 returns c =
     let words = c .before in
     let s = words .before .before in (
-      sym (words-fail (s .args .format) (shapedIn s) (tailBits (s .args .tail)) (data-size s) (sym (words .all-words .ensures) ∙ not-true _ (c .if1 .taken))),
+      sym (words-decide (s .args .format) (shapedIn s) (tailBits (s .args .tail)) (data-size s) false (sym (words .all-words .ensures) ∙ not-true _ (c .if1 .taken))),
       refl,
     )
 
@@ -44,7 +45,7 @@ returns-2 c =
     let words = left .before in
     let s = words .before .before in
     let all = sym (words .all-words .ensures) ∙ not-false _ (left .if1 .left) in (
-      call .meets-conditions .ensures .0 ∙ sym (words-pass (s .args .format) (shapedIn s) (tailBits (s .args .tail)) (data-size s) all),
+      call .meets-conditions .ensures .0 ∙ sym (words-decide (s .args .format) (shapedIn s) (tailBits (s .args .tail)) (data-size s) true all),
       call .meets-conditions .ensures .1,
     )
 
