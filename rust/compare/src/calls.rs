@@ -100,23 +100,30 @@ fn refusal(refusal: balise::Refusal) -> Refusal {
 /// Bytes on either side of an output, which must be kept.
 const GUARD: usize = 32;
 
-/// Runs both programs on outputs of this length with the same random bytes,
-/// between the same guard bytes. Beyond the first `written` bytes, and
-/// everywhere on a refusal, the bytes must be kept.
-fn compared<T: std::fmt::Debug + PartialEq>(
+/// Runs calls of ours and the second program's on outputs of this length with the
+/// same random bytes, between the same guard bytes. Beyond the first `written`
+/// bytes, and everywhere on a refusal, the bytes must be kept.
+fn compared<T, Ours>(
     random: &mut Random,
     room: usize,
-    ours: impl FnOnce(&mut [u8]) -> Result<T, balise::Refusal>,
+    ours: impl IntoIterator<Item = Ours>,
     second: impl FnOnce(&mut [u8]) -> Result<T, Refusal>,
     written: impl FnOnce(&T) -> usize,
-) -> (Result<T, Refusal>, Vec<u8>) {
+) -> (Result<T, Refusal>, Vec<u8>)
+where
+    T: std::fmt::Debug + PartialEq,
+    Ours: FnOnce(&mut [u8]) -> Result<T, balise::Refusal>,
+{
     let before: Vec<u8> = (0..room + 2 * GUARD)
         .map(|_| random.number() as u8)
         .collect();
-    let (mut output, mut other) = (before.clone(), before.clone());
-    let answer = ours(&mut output[GUARD..][..room]).map_err(refusal);
-    assert_eq!(answer, second(&mut other[GUARD..][..room]));
-    assert_eq!(output, other);
+    let mut output = before.clone();
+    let answer = second(&mut output[GUARD..][..room]);
+    for ours in ours {
+        let mut other = before.clone();
+        assert_eq!(ours(&mut other[GUARD..][..room]).map_err(refusal), answer);
+        assert_eq!(other, output);
+    }
     let end = GUARD + answer.as_ref().map_or(0, written);
     assert_eq!(output[..GUARD], before[..GUARD]);
     assert_eq!(output[end..], before[end..]);
@@ -124,29 +131,59 @@ fn compared<T: std::fmt::Debug + PartialEq>(
     (answer, output.split_off(GUARD))
 }
 
+/// An engine of ours that encodes.
+type Engine = fn(&[u8], &mut [u8]) -> Result<balise::Encoded, balise::Refusal>;
+
 /// The second program's encoder, or its quicker one.
 pub type Encoder = fn(&[u8], &mut [u8]) -> Result<Encoded, Refusal>;
 
-/// Encodes a block into an output of this length: the answer and the output.
-pub fn encode(
-    random: &mut Random,
-    second: Encoder,
-    block: &[u8],
-    room: usize,
-) -> (Result<Encoded, Refusal>, Vec<u8>) {
-    let encoded = |encoded: balise::Encoded| Encoded {
+/// What encoding a block answers, and the output.
+type Encoding = (Result<Encoded, Refusal>, Vec<u8>);
+
+fn encoded(encoded: balise::Encoded) -> Encoded {
+    Encoded {
         format: format(encoded.format),
         b: encoded.b,
         esb: encoded.esb,
         count: encoded.count,
-    };
+    }
+}
+
+/// Our plain engine in the place of the second program: to compare the other one
+/// with it alone.
+pub fn plain_engine(block: &[u8], output: &mut [u8]) -> Result<Encoded, Refusal> {
+    balise::encode_plain(block, output)
+        .map(encoded)
+        .map_err(refusal)
+}
+
+fn encode_by(
+    random: &mut Random,
+    engines: &[Engine],
+    second: Encoder,
+    block: &[u8],
+    room: usize,
+) -> Encoding {
     compared(
         random,
         room,
-        |output| balise::encode(block, output).map(encoded),
+        engines
+            .iter()
+            .map(|engine| |output: &mut [u8]| engine(block, output).map(encoded)),
         |output| second(block, output),
         |encoded| encoded.format.telegram_bits(),
     )
+}
+
+/// Encodes a block into an output of this length: the answer and the output.
+pub fn encode(random: &mut Random, second: Encoder, block: &[u8], room: usize) -> Encoding {
+    encode_by(random, &[balise::encode], second, block, room)
+}
+
+/// The same by both engines of ours, which answer and write alike.
+pub fn encode_by_both(random: &mut Random, second: Encoder, block: &[u8], room: usize) -> Encoding {
+    let engines = [balise::encode, balise::encode_plain];
+    encode_by(random, &engines, second, block, room)
 }
 
 /// Makes the telegram of a block, B and esb in an output of this length: the
@@ -161,7 +198,7 @@ pub fn make(
     compared(
         random,
         room,
-        |output| balise::make(block, b, esb, output).map(format),
+        [|output: &mut [u8]| balise::make(block, b, esb, output).map(format)],
         |output| second::make(block, b, esb, output),
         |format| format.telegram_bits(),
     )
@@ -197,7 +234,7 @@ fn read_by(random: &mut Random, ours: Ours, second: Second, window: &[u8], room:
     compared(
         random,
         room,
-        |output| ours(window, output).map(reading),
+        [|output: &mut [u8]| ours(window, output).map(reading)],
         |output| second(window, output),
         |reading| reading.format.user_bits(),
     )

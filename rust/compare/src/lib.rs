@@ -9,6 +9,9 @@ pub mod telegrams;
 
 use second::format::{Format, FORMATS};
 use second::random::Random;
+use std::panic::resume_unwind;
+use std::sync::atomic::{AtomicUsize, Ordering};
+use std::thread;
 
 /// Whether a format is the long one: how it crosses to the layers.
 pub fn long(format: Format) -> bool {
@@ -63,6 +66,31 @@ pub fn asked(variable: &str, count: usize) -> usize {
             .unwrap_or_else(|_| panic!("{variable} is a number")),
         Err(_) => count,
     }
+}
+
+/// What `work` gives for each of these, on all processors, in their order. The
+/// next free processor takes the next one.
+pub fn on_all_processors<T: Sync, R: Send>(
+    list: &[T],
+    work: impl Fn(usize, &T) -> R + Sync,
+) -> Vec<R> {
+    let next = AtomicUsize::new(0);
+    let turn = || {
+        let i = next.fetch_add(1, Ordering::Relaxed);
+        Some((i, work(i, list.get(i)?)))
+    };
+    let mut results = thread::scope(|scope| {
+        let processors = thread::available_parallelism().map_or(1, usize::from);
+        let threads: Vec<_> = (0..processors)
+            .map(|_| scope.spawn(|| std::iter::from_fn(turn).collect::<Vec<_>>()))
+            .collect();
+        threads
+            .into_iter()
+            .flat_map(|thread| thread.join().unwrap_or_else(|panic| resume_unwind(panic)))
+            .collect::<Vec<_>>()
+    });
+    results.sort_by_key(|&(i, _)| i);
+    results.into_iter().map(|(_, result)| result).collect()
 }
 
 /// Lists of every length up to 1,300 that is not one of these two: of bits, and

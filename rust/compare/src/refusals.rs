@@ -19,6 +19,7 @@ use second::words::KINDS;
 #[derive(Clone, Debug)]
 pub enum Call {
     Encode(Vec<u8>, usize),
+    EncodePlain(Vec<u8>, usize),
     /// The block, B, esb and the room.
     Make(Vec<u8>, u64, u64, usize),
     Check(Vec<u8>),
@@ -32,6 +33,7 @@ impl Call {
     pub fn name(&self) -> &'static str {
         match self {
             Call::Encode(..) => "encode",
+            Call::EncodePlain(..) => "encode_plain",
             Call::Make(..) => "make",
             Call::Check(..) => "check",
             Call::Read(..) => "read",
@@ -44,6 +46,9 @@ impl Call {
     pub fn refusal(&self) -> Option<Refusal> {
         match self {
             Call::Encode(block, room) => balise::encode(block, &mut vec![0; *room]).err(),
+            Call::EncodePlain(block, room) => {
+                balise::encode_plain(block, &mut vec![0; *room]).err()
+            }
             Call::Make(block, b, esb, room) => {
                 balise::make(block, *b, *esb, &mut vec![0; *room]).err()
             }
@@ -63,6 +68,14 @@ fn with_no_bit(mut list: Vec<u8>) -> Vec<u8> {
     list
 }
 
+/// A block that both encoders refuse alike, lent this room.
+fn both_encode(refusal: Refusal, block: Vec<u8>, room: usize) -> [(Refusal, Call); 2] {
+    [
+        (refusal, Call::Encode(block.clone(), room)),
+        (refusal, Call::EncodePlain(block, room)),
+    ]
+}
+
 /// A window that both window calls refuse alike, lent this room.
 fn both_read(refusal: Refusal, window: Vec<u8>, room: usize) -> [(Refusal, Call); 2] {
     [
@@ -80,12 +93,12 @@ fn before_the_bits(random: &mut Random, format: Format) -> Vec<(Refusal, Call)> 
     );
     let (block, telegram, window) = (random.bits(m), random.bits(n), random.bits(l));
     let mut calls = vec![
-        (Refusal::Length, Call::Encode(random.bits(m - 1), n)),
         (Refusal::Length, Call::Check(random.bits(n + 1))),
-        (Refusal::NotBit, Call::Encode(with_no_bit(block.clone()), n)),
         (Refusal::NotBit, Call::Check(with_no_bit(telegram))),
-        (Refusal::OutputShort, Call::Encode(block, n - 1)),
     ];
+    calls.extend(both_encode(Refusal::Length, random.bits(m - 1), n));
+    calls.extend(both_encode(Refusal::NotBit, with_no_bit(block.clone()), n));
+    calls.extend(both_encode(Refusal::OutputShort, block, n - 1));
     calls.extend(both_read(Refusal::Length, random.bits(l - 1), m));
     calls.extend(both_read(Refusal::NotBit, with_no_bit(window.clone()), m));
     calls.extend(both_read(Refusal::OutputShort, window, m - 1));
@@ -222,7 +235,8 @@ fn of_make(random: &mut Random, format: Format) -> Vec<(Refusal, Call)> {
     calls
 }
 
-/// Every refusal, with inputs of every call that gives it.
+/// Every refusal, with inputs of every call that gives it; but not refusal 4 of the
+/// plain engine, which takes seconds, and which the test `engines` has.
 pub fn provoking(random: &mut Random) -> Vec<(Refusal, Call)> {
     let limit = balise::CAPTURE_LIMIT;
     let no_pair = Call::Encode(block_without_a_pair(), Format::Long.telegram_bits());

@@ -1,7 +1,8 @@
-//! Encoding: the pair, the count and every byte of the output.
+//! Encoding, by both engines: the pair, the count and every byte of the output.
+//! Random blocks are those of `engines`.
 
-use compare::calls::{encode, Encoder};
-use compare::{asked, both_formats, other_lengths, patterns};
+use compare::calls::{encode, encode_by_both};
+use compare::{both_formats, other_lengths, patterns};
 use second::appendices::{appendix_b, block_without_a_pair};
 use second::encode::PAIRS;
 use second::format::Format;
@@ -14,31 +15,12 @@ use second::{Encoded, Refusal};
 fn compare_block(random: &mut Random, block: &[u8]) -> (Encoded, Vec<u8>) {
     let n = Format::of_block(block.len()).unwrap().telegram_bits();
     let room = n + random.below(40);
-    let (answer, mut output) = encode(random, second::encode, block, room);
+    let (answer, mut output) = encode_by_both(random, second::encode, block, room);
     output.truncate(n);
     let encoded = answer.unwrap();
     let count = 1024 * u32::from(encoded.b) + u32::from(encoded.esb) + 1;
     assert_eq!(encoded.count, count);
     (encoded, output)
-}
-
-/// Random blocks of each format: 100, or as BALISE_BLOCKS says.
-fn compare_random_blocks(format: Format) {
-    let mut random = Random::new(61);
-    for _ in 0..asked("BALISE_BLOCKS", 100) {
-        let block = random.bits(format.user_bits());
-        compare_block(&mut random, &block);
-    }
-}
-
-#[test]
-fn random_long_blocks() {
-    compare_random_blocks(Format::Long);
-}
-
-#[test]
-fn random_short_blocks() {
-    compare_random_blocks(Format::Short);
 }
 
 /// The first pair is the printed one in every row: of the printed block, its
@@ -82,18 +64,19 @@ fn patterned_blocks() {
     });
 }
 
+/// By the plain engine, which takes seconds, in `engines`.
 #[test]
 fn a_block_without_a_pair() {
     let mut random = Random::new(64);
-    let quick: Encoder = second::encode_skipping;
     let refused = Refusal::NoPair { tried: PAIRS };
     assert_eq!(PAIRS, 4_194_304);
-    let (answer, _) = encode(&mut random, quick, &block_without_a_pair(), 1040);
+    let block = block_without_a_pair();
+    let (answer, _) = encode(&mut random, second::encode_skipping, &block, 1040);
     assert_eq!(answer, Err(refused));
 }
 
 fn refuse(random: &mut Random, block: &[u8], room: usize, number: u8) {
-    let (answer, _) = encode(random, second::encode, block, room);
+    let (answer, _) = encode_by_both(random, second::encode, block, room);
     assert_eq!(answer, Err(Refusal::Number(number)));
 }
 
@@ -135,6 +118,6 @@ fn outputs_that_are_too_short() {
         }
         // One byte more is enough.
         let block = random.bits(format.user_bits());
-        assert!(encode(random, second::encode, &block, n).0.is_ok());
+        assert!(encode_by_both(random, second::encode, &block, n).0.is_ok());
     });
 }

@@ -1,6 +1,7 @@
-/* Prints the sizes, and what the six calls answer on 462 zeros and on a capture
- * from standard input, one bit to a byte; check and the window calls also on all of
- * it. What was read is made again, and made with other pairs. */
+/* Prints the sizes, and what the calls answer on 462 zeros and on a capture from
+ * standard input, one bit to a byte; check and the window calls also on all of it.
+ * What was read is made again, made with other pairs, and encoded, by the plain search
+ * too. */
 #include "balise.h"
 
 #include <stdio.h>
@@ -116,6 +117,15 @@ static int print_too_large(const uint8_t *user, uint64_t reading)
     return 0;
 }
 
+/* Prints the answer of one of the encoders, and the telegram. */
+static void print_encoded(const char *call, uint64_t answer, const uint8_t *telegram)
+{
+    printf("%s %u %u %u %u %lu\n", call, BALISE_NUMBER(answer), BALISE_FORMAT(answer),
+           BALISE_ENCODED_B(answer), BALISE_ENCODED_ESB(answer),
+           (unsigned long)BALISE_ENCODED_COUNT(answer));
+    print_bits(telegram, BALISE_TELEGRAM_BITS(BALISE_FORMAT(answer)));
+}
+
 int main(void)
 {
     static uint8_t capture[BALISE_CAPTURE_LIMIT + 1];
@@ -160,11 +170,11 @@ int main(void)
     if (print_too_large(user, answer))
         return 1;
 
+    answer = balise_encode_plain(user, BALISE_USER_BITS(format), telegram, sizeof telegram);
+    print_encoded("encode_plain", answer, telegram);
+    memset(telegram, 0, sizeof telegram);
     answer = balise_encode(user, BALISE_USER_BITS(format), telegram, sizeof telegram);
-    printf("encode %u %u %u %u %lu\n", BALISE_NUMBER(answer), BALISE_FORMAT(answer),
-           BALISE_ENCODED_B(answer), BALISE_ENCODED_ESB(answer),
-           (unsigned long)BALISE_ENCODED_COUNT(answer));
-    print_bits(telegram, BALISE_TELEGRAM_BITS(format));
+    print_encoded("encode", answer, telegram);
 
     print_format("check", balise_check(telegram, BALISE_TELEGRAM_BITS(format)));
     telegram[0] ^= 1;

@@ -1,7 +1,7 @@
 //! A C program against include/balise.h and the static library: its answers are
 //! those of the balise package.
 
-use balise::{Format, Found, Reading, Refusal};
+use balise::{Encoded, Format, Found, Reading, Refusal};
 use balise::{CAPTURE_LIMIT, MAX_TELEGRAM_BITS, MAX_USER_BITS};
 use compare::programs::{repository, run, stdout};
 use compare::telegrams::{random_telegram, with_word};
@@ -114,6 +114,9 @@ fn sizes() -> String {
     lines
 }
 
+/// One of the encoders.
+type Encode = fn(&[u8], &mut [u8]) -> Result<Encoded, Refusal>;
+
 /// What the C program is to write on this capture.
 fn expected(capture: &[u8]) -> String {
     let mut user = [0; MAX_USER_BITS];
@@ -146,15 +149,18 @@ fn expected(capture: &[u8]) -> String {
     let format = found.reading.format;
     let (m, n) = (format.user_bits(), format.telegram_bits());
     let mut telegram = [0; MAX_TELEGRAM_BITS];
-    let encoded = balise::encode(&user[..m], &mut telegram).expect("a pair");
-    let bit = format_bit(encoded.format);
-    writeln!(
-        lines,
-        "encode 0 {bit} {} {} {}",
-        encoded.b, encoded.esb, encoded.count
-    )
-    .unwrap();
-    writeln!(lines, "{}", text(&telegram[..n])).unwrap();
+    let encoders: [(&str, Encode); 2] = [
+        ("encode_plain", balise::encode_plain),
+        ("encode", balise::encode),
+    ];
+    for (call, encode) in encoders {
+        telegram.fill(0);
+        let encoded = encode(&user[..m], &mut telegram).expect("a pair");
+        let Encoded { b, esb, count, .. } = encoded;
+        let bit = format_bit(encoded.format);
+        writeln!(lines, "{call} 0 {bit} {b} {esb} {count}").unwrap();
+        writeln!(lines, "{}", text(&telegram[..n])).unwrap();
+    }
     lines += &format_line("check", balise::check(&telegram[..n]));
     telegram[0] ^= 1;
     lines += &format_line("check", balise::check(&telegram[..n]));

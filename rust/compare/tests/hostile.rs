@@ -1,8 +1,10 @@
 //! Any bytes to the six calls: 200,000 calls in all, or as many as the variable
 //! BALISE_CALLS says. Every answer, with what a refusal carries, and every byte of
-//! the outputs and around them is that of the second program.
+//! the outputs and around them is that of the second program. Encode goes by both
+//! engines, wherever it does not search, and for some of the blocks for which it
+//! does.
 
-use compare::calls::{check, encode, make, read_both, search, Tally};
+use compare::calls::{check, encode, encode_by_both, make, read_both, search, Tally};
 use compare::telegrams::*;
 use compare::{asked, burst, patterns};
 use second::appendices::appendix_b;
@@ -24,7 +26,10 @@ const LENGTH: usize = 2200;
 const CAPTURE: usize = 7600;
 
 /// Of so many blocks that would be encoded, one is.
-const ENCODED: usize = 100;
+const ENCODED: usize = 10;
+
+/// Of so many blocks that are encoded, one is by the plain engine too.
+const BY_BOTH: usize = 10;
 
 /// A share of the calls, in hundredths.
 fn share(hundredths: usize) -> usize {
@@ -294,12 +299,15 @@ fn moved(random: &mut Random, list: &[u8]) -> (Vec<u8>, usize) {
 fn encode_any_bytes() {
     let mut inputs = Inputs::new(101);
     let mut tally = Tally::default();
+    let mut plain = 0;
     for _ in 0..share(18) {
         let mut block = inputs.list([830, 210], true);
         let format = Format::of_block(block.len());
         let needed = format.unwrap_or(Format::Long).telegram_bits();
         let mut room = inputs.room(needed);
-        if format.is_some() && all_bits(&block) && room >= needed && !inputs.one_in(ENCODED) {
+        let mut searched = format.is_some() && all_bits(&block) && room >= needed;
+        if searched && !inputs.one_in(ENCODED) {
+            searched = false;
             if inputs.one_in(2) {
                 let place = inputs.random.below(block.len());
                 block[place] = 2 + inputs.random.below(254) as u8;
@@ -308,10 +316,17 @@ fn encode_any_bytes() {
             }
         }
         let (buffer, at) = moved(&mut inputs.random, &block);
+        let encode = if searched && !inputs.one_in(BY_BOTH) {
+            encode
+        } else {
+            plain += usize::from(searched);
+            encode_by_both
+        };
         let (answer, _) = encode(&mut inputs.random, encode_skipping, &buffer[at..], room);
         tally.add(answer);
     }
     tally.print("calls of encode, by number");
+    println!("      searched by the plain engine too: {plain}");
     assert_eq!(tally.numbers()[..4], [0, 1, 2, 3]);
 }
 

@@ -1,7 +1,7 @@
 //! Making the telegram of a block, B and esb: the answer, each refusal in its
 //! order, and every byte of the output (document 02, No. 11).
 
-use compare::calls::{check, encode, make, Tally};
+use compare::calls::{check, encode_by_both, make, Tally};
 use compare::telegrams::*;
 use compare::{both_formats, other_lengths, patterns};
 use second::appendices::appendix_b;
@@ -127,7 +127,7 @@ fn pairs_of_the_encoder() {
     }
     for block in blocks {
         let n = Format::of_block(block.len()).unwrap().telegram_bits();
-        let (answer, telegram) = encode(&mut random, encode_skipping, &block, n);
+        let (answer, telegram) = encode_by_both(&mut random, encode_skipping, &block, n);
         let pair = answer.unwrap();
         let (b, esb) = (pair.b.into(), pair.esb.into());
         make_exactly(&mut random, &Good { block, b, esb }, &telegram);

@@ -5,9 +5,10 @@
 use compare::documents::document;
 use compare::programs::{repository, run, stderr, stdout, Program, PROGRAMS};
 use compare::telegrams::{random_telegram, telegram_of};
-use second::appendices::well_formed_not_proper;
+use second::appendices::{block_without_a_pair, well_formed_not_proper};
 use second::bad_words::{bad_telegrams, every_word, BadTelegram};
 use second::bits::{of_text, text};
+use second::encode_skipping;
 use second::format::{Format, FORMATS};
 use second::random::Random;
 use second::telegram::cut;
@@ -199,6 +200,19 @@ fn encode_then_check() {
             assert!(agreed("check", &damaged).contains("refused"));
         }
     }
+}
+
+/// All pairs are tried. The second program's line is that of its quicker search.
+#[test]
+fn a_block_without_a_pair() {
+    let block = block_without_a_pair();
+    let refusal = encode_skipping(&block, &mut [0; 1023]).expect_err("no pair");
+    let ours = format!("target/bin/{}", program("encode").name);
+    let none: &[&str] = &[];
+    let ours = written(&ours, None, none, Stdio::piped(), text(&block).as_bytes());
+    let output = format!("balise encode 1\nbits {}\n{refusal}\n", block.len());
+    let error = String::new();
+    assert_eq!(ours, Written { output, error });
 }
 
 #[test]
