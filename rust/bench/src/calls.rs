@@ -1,6 +1,6 @@
-//! The public calls against the second program's.
+//! The public calls, without encode, against plain Rust's.
 
-use crate::{heading, microseconds, plain, row, set, timed, timed_row, INPUTS, SETS};
+use crate::{heading, plain, set, timed, timed_row, INPUTS, SETS};
 use balise::{MAX_TELEGRAM_BITS, MAX_USER_BITS};
 use second::format::{Format, FORMATS};
 use second::made::random_telegrams;
@@ -11,57 +11,8 @@ use second::{Reading, Refusal};
 use std::fmt::Debug;
 use std::hint::black_box;
 
-/// Blocks of each format to encode.
-const BLOCKS: usize = 100;
-
-/// Times that each block is encoded; the least time counts.
-const TRIES: usize = 2;
-
 /// Different telegrams to check and to read; more would take long to make.
 const TELEGRAMS: usize = 64;
-
-/// The mean and the worst of the blocks' times.
-fn mean_and_worst(times: &[f64]) -> (f64, f64) {
-    let sum: f64 = times.iter().sum();
-    let worst = times.iter().copied().fold(0.0, f64::max);
-    (sum / times.len() as f64, worst)
-}
-
-/// The least times of both encoders for each block.
-fn encode(blocks: &[Vec<u8>]) -> (Vec<f64>, Vec<f64>) {
-    let mut output = [0; Format::Long.telegram_bits()];
-    let (mut ours, mut plain) = (
-        vec![f64::INFINITY; blocks.len()],
-        vec![f64::INFINITY; blocks.len()],
-    );
-    for _ in 0..TRIES {
-        for (i, block) in blocks.iter().enumerate() {
-            let time = microseconds(|| {
-                black_box(balise::encode(black_box(block), &mut output)).expect("a pair");
-            });
-            ours[i] = ours[i].min(time);
-            let time = microseconds(|| {
-                black_box(second::encode(black_box(block), &mut output)).expect("a pair");
-            });
-            plain[i] = plain[i].min(time);
-        }
-    }
-    (ours, plain)
-}
-
-/// Prints the rows of encoding for a format.
-fn encode_rows(random: &mut Random, format: Format) {
-    let blocks: Vec<Vec<u8>> = (0..BLOCKS)
-        .map(|_| random.bits(format.user_bits()))
-        .collect();
-    let (ours, plain) = encode(&blocks);
-    let (our_mean, our_worst) = mean_and_worst(&ours);
-    let (plain_mean, plain_worst) = mean_and_worst(&plain);
-    let name = format!("encode, {}, mean", format.name());
-    row(&name, our_mean, plain_mean, "1.0");
-    let name = format!("encode, {}, worst block", format.name());
-    row(&name, our_worst, plain_worst, "1.0");
-}
 
 /// Prints the row of checking for a format. Plain Rust and the second program
 /// answer alike.
@@ -210,14 +161,6 @@ pub fn calls() {
     let mut random = Random::new(2);
     println!();
     println!("## Calls");
-    println!();
-    println!("Encoding: {BLOCKS} random blocks of each format, the less of {TRIES} times; plain is the second");
-    println!("program, which forms and tests each pair in order.");
-    println!();
-    heading();
-    for format in FORMATS {
-        encode_rows(&mut random, format);
-    }
     println!();
     println!(
         "Proper telegrams, made of their user bits and pairs, checked, and read from windows cut"

@@ -3,12 +3,16 @@
 
 mod calls;
 mod captures;
+mod encode;
 mod gate;
 mod layer_rows;
 pub mod look_up;
 mod plain;
 #[cfg(test)]
 mod plain_tests;
+mod quick;
+#[cfg(test)]
+mod quick_tests;
 
 use second::random::Random;
 use std::time::Instant;
@@ -102,6 +106,7 @@ pub fn figures(log: Option<&str>) {
     println!("## Lookup of a word");
     println!();
     look_up::look_up();
+    encode::encode();
     calls::calls();
     captures::captures();
     if let Some(log) = log {

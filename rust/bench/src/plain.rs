@@ -40,13 +40,17 @@ const F: u128 = polynomial(Format::Long.f());
 pub const G: u128 = polynomial(Format::Long.g());
 pub const FG: u128 = product(F, G);
 const SHORT_F: u128 = polynomial(Format::Short.f());
-const SHORT_G: u128 = polynomial(Format::Short.g());
-const SHORT_FG: u128 = product(SHORT_F, SHORT_G);
+pub const SHORT_G: u128 = polynomial(Format::Short.g());
+pub const SHORT_FG: u128 = product(SHORT_F, SHORT_G);
 
 /// The remainder by a divisor that the compiler knows.
 pub fn remainder<const DIVISOR: u128>(bits: &[u8]) -> u128 {
+    remainder_from::<DIVISOR>(0, bits)
+}
+
+/// The same, of bits after those that have this remainder.
+pub fn remainder_from<const DIVISOR: u128>(mut register: u128, bits: &[u8]) -> u128 {
     let top = 1 << (127 - DIVISOR.leading_zeros());
-    let mut register = 0;
     for &bit in bits {
         register = register << 1 | u128::from(bit);
         if register & top != 0 {
@@ -111,7 +115,7 @@ fn number(bits: &[u8]) -> u32 {
         .fold(0, |number, &bit| number << 1 | u32::from(bit))
 }
 
-fn write_number(number: u32, out: &mut [u8]) {
+pub fn write_number(number: u32, out: &mut [u8]) {
     let width = out.len();
     for (place, out) in out.iter_mut().enumerate() {
         *out = (number >> (width - 1 - place) & 1) as u8;
@@ -270,7 +274,7 @@ fn make_as<const G: u128, const FG: u128>(
     let mut telegram = [0; Format::Long.telegram_bits()];
     let telegram = &mut telegram[..format.telegram_bits()];
     let (shaped, fields) = telegram.split_at_mut(format.shaped_bits());
-    shape(b as u32, block, shaped);
+    shape(b as u32, &with_sum(block)[..block.len()], shaped);
     fields[..3].copy_from_slice(&CONTROL);
     write_number(b as u32, &mut fields[3..15]);
     write_number(esb as u32, &mut fields[15..25]);
@@ -284,14 +288,19 @@ fn make_as<const G: u128, const FG: u128>(
     Ok(format)
 }
 
-/// Writes the shaped data of a block.
-fn shape(b: u32, block: &[u8], out: &mut [u8]) {
-    let mut replaced = [0; Format::Long.user_bits()];
-    let mut scrambled = replaced;
-    let (replaced, scrambled) = (&mut replaced[..block.len()], &mut scrambled[..block.len()]);
-    replaced.copy_from_slice(block);
-    write_number(sum(block), &mut replaced[..10]);
-    scramble(b, replaced, scrambled);
+/// A block with the sum of its blocks of ten bits in the place of the first.
+pub fn with_sum(block: &[u8]) -> [u8; Format::Long.user_bits()] {
+    let mut summed = [0; Format::Long.user_bits()];
+    summed[..block.len()].copy_from_slice(block);
+    write_number(sum(block), &mut summed[..10]);
+    summed
+}
+
+/// Writes the shaped data of a block that has its sum.
+pub fn shape(b: u32, summed: &[u8], out: &mut [u8]) {
+    let mut scrambled = [0; Format::Long.user_bits()];
+    let scrambled = &mut scrambled[..summed.len()];
+    scramble(b, summed, scrambled);
     for (ten, word) in scrambled.chunks_exact(10).zip(out.chunks_exact_mut(11)) {
         write_number(WORDS[number(ten) as usize].into(), word);
     }
@@ -307,7 +316,8 @@ fn place_after(place: usize, by: usize, n: usize) -> usize {
 }
 
 /// Which of the 2,048 words are in the table.
-static VALID: LazyLock<[bool; 2048]> = LazyLock::new(|| NUMBERS.map(|number| number != NO_NUMBER));
+pub static VALID: LazyLock<[bool; 2048]> =
+    LazyLock::new(|| NUMBERS.map(|number| number != NO_NUMBER));
 
 /// The number of eight bits. The product has them side by side in its top byte;
 /// no two of its terms meet.
@@ -317,7 +327,7 @@ fn eight(bits: &[u8]) -> usize {
 }
 
 /// Whether eleven bits are a word of the table.
-fn is_word(valid: &[bool; 2048], bits: &[u8]) -> bool {
+pub fn is_word(valid: &[bool; 2048], bits: &[u8]) -> bool {
     valid[eight(&bits[..8]) << 3 | eight(&bits[3..11]) & 7]
 }
 
@@ -335,13 +345,18 @@ fn words_from(index: usize, telegram: &[u8]) -> Result<(), Refusal> {
 /// an end there.
 const TWICE: usize = 2 * Format::Long.telegram_bits();
 
-/// Whether no run of table words is over a limit, round the ring from a place
-/// on. A run over the limit has limit+1 table words from one of the ring's words
-/// on; so the last of limit+1 words that is none rules out a run from each of
-/// them up to itself.
-fn runs_within(ring: &[u8; TWICE], place: usize, words: usize, limit: usize) -> bool {
+/// Whether no run of table words from one of so many on, cut from a place on, is
+/// over a limit. A run over the limit has limit+1 table words from one of them on;
+/// so the last of limit+1 words that is none rules out a run from each of them up to
+/// itself.
+pub fn runs_within<const N: usize>(
+    bits: &[u8; N],
+    place: usize,
+    words: usize,
+    limit: usize,
+) -> bool {
     let valid = &*VALID;
-    let no_word = |i: &usize| !is_word(valid, &ring[place + 11 * i..][..11]);
+    let no_word = |i: &usize| !is_word(valid, &bits[place + 11 * i..][..11]);
     let mut i = 0;
     while i < words {
         let Some(last) = (i..=i + limit).rev().find(no_word) else {
@@ -425,7 +440,7 @@ pub fn condition_4(format: Format, telegram: &[u8]) -> bool {
 }
 
 /// Conditions 2, 3 and 4: the refusal of the first that fails.
-fn conditions(format: Format, telegram: &[u8]) -> Result<(), Refusal> {
+pub fn conditions(format: Format, telegram: &[u8]) -> Result<(), Refusal> {
     if !condition_2(format, telegram) {
         Err(refusal::OFF_STEP)
     } else if !condition_3(format, telegram) {
