@@ -1,8 +1,8 @@
 //! Encoding, by both engines: the pair, the count and every byte of the output.
-//! Random blocks are those of `engines`.
+//! Random and patterned blocks are those of `engines`.
 
 use compare::calls::{encode, encode_by_both};
-use compare::{both_formats, other_lengths, patterns};
+use compare::{both_formats, other_lengths};
 use second::appendices::{appendix_b, block_without_a_pair};
 use second::encode::PAIRS;
 use second::format::Format;
@@ -44,24 +44,6 @@ fn blocks_of_appendix_b() {
             assert_ne!(output, telegram, "row {number}");
         }
     }
-}
-
-/// All 0, all 1, periods, and a single 1 or 0.
-#[test]
-fn patterned_blocks() {
-    both_formats(63, |format, random| {
-        let m = format.user_bits();
-        for block in patterns(m) {
-            compare_block(random, &block);
-        }
-        for place in [0, 9, 10, m / 2, m - 1] {
-            for value in [0, 1] {
-                let mut block = vec![1 - value; m];
-                block[place] = value;
-                compare_block(random, &block);
-            }
-        }
-    });
 }
 
 /// By the plain engine, which takes seconds, in `engines`.

@@ -183,10 +183,9 @@ fn both_ways_up(blocks: &mut Vec<Vec<u8>>, m: usize, bit: impl Fn(usize) -> bool
     blocks.push(block);
 }
 
-/// All 0, all 1, alternating, periods; one change and many; words over and over;
-/// few bits; tens of bits that count up.
-fn patterned(random: &mut Random, m: usize) -> Vec<Vec<u8>> {
-    let mut blocks = patterns(m);
+/// One change and many; words over and over; few bits; tens of bits that count up.
+fn other_patterns(random: &mut Random, m: usize) -> Vec<Vec<u8>> {
+    let mut blocks = Vec::new();
     for end in [2, 9, 10, 11, m / 4, m / 2, m - m / 4, m - 10, m - 2] {
         both_ways_up(&mut blocks, m, |i| i < end);
     }
@@ -208,11 +207,17 @@ fn patterned(random: &mut Random, m: usize) -> Vec<Vec<u8>> {
     blocks
 }
 
+/// All 0, all 1, alternating and other periods, for which the second program forms
+/// each pair, and other patterns.
 #[test]
 fn patterned_blocks() {
     both_formats(5, |format, random| {
-        let blocks = patterned(random, format.user_bits());
-        let cases: Vec<Case> = blocks.into_iter().map(three_ways).collect();
+        let m = format.user_bits();
+        let mut cases: Vec<Case> = patterns(m).into_iter().map(three_ways).collect();
+        for case in &mut cases {
+            case.second = second::encode;
+        }
+        cases.extend(other_patterns(random, m).into_iter().map(three_ways));
         compare_in(format, "patterned blocks", 5, &cases);
     });
 }
