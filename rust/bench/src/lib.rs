@@ -3,8 +3,8 @@
 
 mod calls;
 mod captures;
+mod check;
 mod encode;
-mod gate;
 mod layer_rows;
 pub mod look_up;
 mod plain;
@@ -85,7 +85,7 @@ fn timed(calls: usize, mut one: impl FnMut(usize), mut other: impl FnMut(usize))
 }
 
 /// Prints docs/PERFORMANCE.md, with the seconds of the check from what
-/// `.ci/run` printed.
+/// `rt prove` printed.
 pub fn figures(log: Option<&str>) {
     println!("# Figures");
     println!();
@@ -94,8 +94,9 @@ pub fn figures(log: Option<&str>) {
     );
     println!();
     println!("```");
-    println!("mkdir -p rust/target && .ci/run > rust/target/gate.log");
-    println!("cd rust && cargo run --release --offline -p bench -- target/gate.log > ../docs/PERFORMANCE.md");
+    println!("mkdir -p rust/target && rt prove > rust/target/prove.log");
+    println!("rt staticlib layers && rt staticlib balise");
+    println!("cd rust && cargo run --release --offline -p bench -- target/prove.log > ../docs/PERFORMANCE.md");
     println!("```");
     println!();
     println!("Ratios of one run, both sides built for release; nothing asserts a time. Medians of");
@@ -110,6 +111,6 @@ pub fn figures(log: Option<&str>) {
     calls::calls();
     captures::captures();
     if let Some(log) = log {
-        gate::gate(log);
+        check::check(log);
     }
 }

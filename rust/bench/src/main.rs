@@ -1,11 +1,11 @@
-//! Prints docs/PERFORMANCE.md. An argument names a file with what `.ci/run`
+//! Prints docs/PERFORMANCE.md. An argument names a file with what `rt prove`
 //! printed, for the seconds of the check.
 
 use std::process::exit;
 use std::{env, fs};
 
-/// What `.ci/run` printed, if an argument names the file that has it.
-fn gate_log() -> Option<String> {
+/// What `rt prove` printed, if an argument names the file that has it.
+fn proved_log() -> Option<String> {
     let path = env::args().nth(1)?;
     match fs::read_to_string(&path) {
         Ok(log) => Some(log),
@@ -17,5 +17,5 @@ fn gate_log() -> Option<String> {
 }
 
 fn main() {
-    bench::figures(gate_log().as_deref());
+    bench::figures(proved_log().as_deref());
 }

@@ -1,4 +1,4 @@
-//! The seconds of the check, from what `.ci/run` printed.
+//! The seconds of the check, from what `rt prove` printed.
 
 /// Name and seconds of a line `rt: NAME proved (N s)`.
 fn proved(line: &str) -> Option<(&str, &str)> {
@@ -6,22 +6,12 @@ fn proved(line: &str) -> Option<(&str, &str)> {
     Some((name, rest.strip_suffix(" s)")?))
 }
 
-/// How many edits the prover refused.
-fn edits(log: &str) -> usize {
-    log.lines()
-        .filter(|line| line.starts_with("rt: must-fail "))
-        .count()
-}
-
-pub fn gate(log: &str) {
+pub fn check(log: &str) {
     println!();
     println!("## The check");
     println!();
-    println!("Seconds by crate in a run of the gate, two at a time on two cores. Each of its");
-    println!(
-        "{} must-fail edits costs about as much as its crate.",
-        edits(log)
-    );
+    println!("Seconds by crate in a run of `rt prove`, two at a time on two cores. In the gate each");
+    println!("must-fail edit costs about as much as its crate.");
     println!();
     println!("| crate | seconds |");
     println!("|---|---|");
