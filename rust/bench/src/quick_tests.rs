@@ -58,8 +58,8 @@ fn answers_are_those_of_the_second_program() {
         .collect();
     for format in FORMATS {
         let m = format.user_bits();
-        blocks.extend((0..8).map(|_| random.bits(m)));
-        blocks.extend(patterns(m).into_iter().step_by(4));
+        blocks.extend((0..6).map(|_| random.bits(m)));
+        blocks.extend(patterns(m).into_iter().step_by(6));
     }
     for block in blocks {
         let format = Format::of_block(block.len()).expect("a block");

@@ -24,7 +24,7 @@ use second::{encode_skipping, Encoded, Refusal};
 
 /// Random blocks of each format that are compared three ways, and two ways.
 const THREE_WAYS: usize = 2000;
-const TWO_WAYS: usize = 2000;
+const TWO_WAYS: usize = 1000;
 
 /// Of the random blocks of each format so many go to the second program's plain
 /// search, or as many as BALISE_BLOCKS says.
@@ -160,7 +160,7 @@ fn blocks_of_appendix_b() {
     compare("blocks of Appendix B", 3, &cases);
 }
 
-/// Blocks with one 1, and with one 0. Of the long ones with one 0 most go two ways.
+/// Blocks with one 1, and with one 0. The long ones with one 0 go two ways.
 #[test]
 fn blocks_with_a_single_bit() {
     for format in FORMATS {
@@ -170,7 +170,7 @@ fn blocks_with_a_single_bit() {
             let block: Vec<u8> = (0..m).map(|i| u8::from(i == place)).collect();
             let flipped = flip(&block);
             cases.push(three_ways(block));
-            cases.push(case(flipped, format == Format::Short || place % 10 == 0));
+            cases.push(case(flipped, format == Format::Short));
         }
         compare_in(format, "blocks with a single 1 or 0", 4, &cases);
     }
@@ -319,26 +319,23 @@ fn first_b() -> u16 {
 fn blocks_with_runs_about_the_limit() {
     let b = first_b();
     both_formats(6, |format, random| {
-        let mut lists = [Vec::new(), Vec::new()];
-        for p in 1..=10 {
-            let limit = off_step_limit(p, format);
-            for (more, cases) in lists.iter_mut().enumerate() {
-                let words = limit + more;
+        for (more, what) in [(0, "of the limit"), (1, "of one word more")] {
+            let mut cases = Vec::new();
+            for p in 1..=10 {
+                let words = off_step_limit(p, format) + more;
                 let last = format.blocks() - 1 - words;
                 for first in [0, 1 + random.below(last - 1), last] {
                     let shaped = Run { p, first, words }.shaped_data(random, format);
                     cases.push(three_ways(block_of(&shaped, b, format)));
                 }
             }
-        }
-        let with_that_b = lists.map(|cases| {
-            let answers = compare_in(format, "blocks with a run about the limit", 6, &cases);
+            let what = format!("blocks with a run {what}");
+            let answers = compare_in(format, &what, 6, &cases);
             let of_b = |answer: &&Result<Encoded, Refusal>| matches!(answer, Ok(e) if e.b == b);
-            answers.iter().filter(of_b).count()
-        });
-        println!("of these the pair has B {b}: {with_that_b:?}");
-        assert!(with_that_b[0] > 0);
-        assert_eq!(with_that_b[1], 0);
+            let with_b = answers.iter().filter(of_b).count();
+            println!("      of these the pair has B {b}: {with_b}");
+            assert_eq!(with_b > 0, more == 0);
+        }
     });
 }
 
