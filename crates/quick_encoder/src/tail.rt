@@ -43,14 +43,15 @@ fn five_words(x: u64) -> bool
     true
 }
 
-// Whether all ten words are in the table. Those of the check bits first: they change most.
+// Whether all ten words are in the table, from the first on: the first two change least as esb is counted on, so that the processor foresees
+// their branches.
 pub fn all_words(tail: Tail) -> bool
     ensures { λ r. ⌜ r ≡ allWords 10 (tailBits tail) ⌝ }
 {
-    if !five_words(tail.low) {
+    if !five_words(tail.high) {
         return false;
     }
-    five_words(tail.high)
+    five_words(tail.low)
 }
 
 // The 55 bits of a number over the front of out.

@@ -10,7 +10,9 @@ pub fn check(log: &str) {
     println!();
     println!("## The check");
     println!();
-    println!("Seconds by crate in a run of `rt prove`, two at a time on two cores. In the gate each");
+    println!(
+        "Seconds by crate in a run of `rt prove`, two at a time on two cores. In the gate each"
+    );
     println!("must-fail edit costs about as much as its crate.");
     println!();
     println!("| crate | seconds |");
