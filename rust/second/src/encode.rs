@@ -2,11 +2,10 @@
 //! by document 02, No. 5).
 
 use crate::bits::all_bits;
-use crate::conditions::{condition_3, condition_4, off_step, Course};
+use crate::conditions::Course;
 use crate::format::Format;
+use crate::pairs::{pairs_from, pairs_from_skipping, Pair};
 use crate::refusal::{self, Refusal};
-use crate::telegram::{all_words_valid, complete, shaped_data, B_VALUES, CONTROL, ESB_VALUES};
-use crate::{bits::bits_of, words};
 
 /// The count of all pairs, that of refusal 4.
 pub const PAIRS: u32 = 4_194_304;
@@ -20,57 +19,14 @@ pub struct Encoded {
     pub count: u32,
 }
 
-/// A pair and its telegram.
-#[derive(Clone, Debug, PartialEq, Eq)]
-pub struct Pair {
-    pub b: u16,
-    pub esb: u16,
-    pub telegram: Vec<u8>,
-}
-
-/// Is a telegram, as `complete` makes it, proper? Its shaped words are entries
-/// and its control and check bits right, so the last ten words are left of
-/// condition 1.
-fn proper(telegram: &[u8], format: Format, course: Course) -> bool {
-    all_words_valid(&telegram[format.shaped_bits()..])
-        && off_step(telegram, format, course)
-        && condition_3(telegram, format)
-        && condition_4(telegram)
-}
-
-/// The first proper pair with this B.
-fn first_esb(shaped: &[u8], b: u16, format: Format, course: Course) -> Option<Pair> {
-    for esb in 0..ESB_VALUES {
-        let telegram = complete(shaped, b, esb, format);
-        if proper(&telegram, format, course) {
-            return Some(Pair { b, esb, telegram });
-        }
-    }
-    None
-}
-
 /// The first proper pair: each one formed and tested in the listed order.
 pub fn first_pair(user: &[u8], format: Format, course: Course) -> Option<Pair> {
-    (0..B_VALUES).find_map(|b| first_esb(&shaped_data(user, b), b, format, course))
+    pairs_from(user, format, course, (0, 0)).next()
 }
 
-/// The same pair, found by dropping a B whose own word is not in the table or
-/// whose shaped data alone breaks condition 2. The shaped data are a strip,
-/// whatever the course: a run within them is one on the strip and on the ring.
+/// The same pair, found sooner.
 pub fn first_pair_skipping(user: &[u8], format: Format, course: Course) -> Option<Pair> {
-    (0..B_VALUES)
-        .filter(|&b| {
-            let front = [&CONTROL[..], &bits_of((b >> 4).into(), 8)].concat();
-            words::valid(words::of_bits(&front))
-        })
-        .find_map(|b| {
-            let shaped = shaped_data(user, b);
-            if off_step(&shaped, format, Course::Strip) {
-                first_esb(&shaped, b, format, course)
-            } else {
-                None
-            }
-        })
+    pairs_from_skipping(user, format, course, (0, 0)).next()
 }
 
 /// The refusals before the search, lowest number first, then the search.

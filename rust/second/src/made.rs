@@ -1,5 +1,6 @@
 //! Telegrams and rings made for the test programs.
 
+use crate::appendices::block_without_a_pair;
 use crate::bits::bits_of;
 use crate::cyclic::check_bits;
 use crate::encode::{encode_skipping, Encoded};
@@ -31,6 +32,20 @@ pub fn random_telegrams(random: &mut Random, format: Format, count: usize) -> Ve
         .map(|_| random_telegram(random, format))
         .collect()
 }
+
+/// The long block without a pair with the bits at a place and ten later exchanged;
+/// none where they are equal. The sum of the blocks stays, and so do the scrambled
+/// bits before the place: the later it is, the fewer pairs there are.
+pub fn with_few_pairs(place: usize) -> Option<Vec<u8>> {
+    let mut block = block_without_a_pair();
+    block.swap(place, place + 10);
+    (block[place] != block[place + 10]).then_some(block)
+}
+
+/// Places with which `with_few_pairs` gives a block with exactly a hundred pairs, and
+/// with one more.
+pub const A_HUNDRED: usize = 654;
+pub const ONE_MORE: usize = 638;
 
 /// A telegram with other bits at a place and its check bits put right again.
 pub fn with_bits(telegram: &[u8], format: Format, place: usize, bits: &[u8]) -> Vec<u8> {

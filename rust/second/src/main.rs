@@ -1,14 +1,16 @@
 //! The second program on standard input: `second encode`, `check`, `read`,
-//! `read-well-formed`, `capture`, or `make B ESB`. It reads characters 0 and 1,
-//! skipping bytes 10 and 13, and writes what the main programs write (document
-//! 01, the capture program; document 02, No. 11 and No. 13); of a bad text, or an
-//! argument of `make` that is no number, a line on standard error says what is
-//! wrong.
+//! `read-well-formed`, `capture`, `make B ESB` or `pairs`. It reads characters 0 and
+//! 1, skipping bytes 10 and 13, and writes what the main programs write (document
+//! 01, the capture program; document 02, No. 9, No. 11 and No. 13); of a bad text,
+//! an argument of `make` that is no number, or a block of `pairs` that is refused, a
+//! line on standard error says what is wrong. `pairs` finds them by dropping
+//! scrambling bits, as `encode_skipping` does.
 
 use second::bits::{first_fault, of_text, text, Fault};
 use second::format::Format;
 use second::{
-    check, encode, make, read, read_well_formed, search, Reading, Refusal, CAPTURE_LIMIT,
+    check, encode, make, pairs_skipping, read, read_well_formed, search, Reading, Refusal,
+    CAPTURE_LIMIT,
 };
 use std::ffi::OsString;
 use std::io::{self, Read, Write};
@@ -16,6 +18,9 @@ use std::{env, process};
 
 /// The lines after the second, from the bits.
 type Answer = Box<dyn Fn(&[u8]) -> String>;
+
+/// The pairs that `pairs` writes, at most.
+const LISTED: usize = 100;
 
 fn main() -> io::Result<()> {
     let mut arguments = env::args_os().skip(1);
@@ -28,21 +33,28 @@ fn main() -> io::Result<()> {
         "read-well-formed" => (Format::Long.window_bits(), Ok(Box::new(well_formed_read))),
         "capture" => (CAPTURE_LIMIT, Ok(Box::new(captured))),
         "make" => (Format::Long.user_bits(), making(arguments)),
+        "pairs" => return write("", input(Format::Long.user_bits()).and_then(listed)),
         _ => {
             eprintln!(
-                "usage: second encode | check | read | read-well-formed | capture | make B ESB"
+                "usage: second encode | check | read | read-well-formed | capture | make B ESB | pairs"
             );
             process::exit(2);
         }
     };
-    let lines = match answer.and_then(|answer| Ok((answer, input(limit)?))) {
-        Ok((answer, bits)) => format!("bits {}\n{}", bits.len(), answer(&bits)),
-        Err(wrong) => {
-            eprintln!("balise: {wrong}");
-            String::from("bad\n")
-        }
-    };
-    io::stdout().write_all(format!("balise {kind} 1\n{lines}").as_bytes())
+    let lines = answer.and_then(|answer| {
+        let bits = input(limit)?;
+        Ok(format!("bits {}\n{}", bits.len(), answer(&bits)))
+    });
+    write(&format!("balise {kind} 1\n"), lines)
+}
+
+/// Writes the heading and the lines, or `bad` in their place and what is wrong.
+fn write(heading: &str, lines: Result<String, String>) -> io::Result<()> {
+    let lines = lines.unwrap_or_else(|wrong| {
+        eprintln!("balise: {wrong}");
+        String::from("bad\n")
+    });
+    io::stdout().write_all(format!("{heading}{lines}").as_bytes())
 }
 
 /// The bits of standard input, or what is wrong with it.
@@ -101,6 +113,23 @@ fn made(block: &[u8], b: u64, esb: u64) -> String {
         ),
         Err(refusal) => format!("{refusal}\n"),
     }
+}
+
+/// The first hundred pairs, one a line, and whether there are more (document 02,
+/// No. 9), or why the block is refused.
+fn listed(block: Vec<u8>) -> Result<String, String> {
+    let refused = |_| format!("a block has 830 or 210 bits, and this has {}", block.len());
+    let mut pairs = pairs_skipping(&block).map_err(refused)?;
+    let listed = pairs.by_ref().take(LISTED);
+    let lines: String = listed
+        .map(|pair| format!("{} {}\n", pair.b, pair.esb))
+        .collect();
+    let last = if pairs.next().is_some() {
+        "more"
+    } else {
+        "end"
+    };
+    Ok(format!("{lines}{last}\n"))
 }
 
 fn checked(telegram: &[u8]) -> String {

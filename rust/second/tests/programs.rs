@@ -3,14 +3,15 @@
 use std::io::Write;
 use std::process::{Command, Stdio};
 
-use second::appendices::well_formed_not_proper;
+use second::appendices::{block_without_a_pair, well_formed_not_proper};
 use second::bad_words::bad_telegrams;
 use second::bits::text;
+use second::made::{with_few_pairs, A_HUNDRED, ONE_MORE};
 use second::random::Random;
 use second::read::user_bits_of;
 use second::telegram::{b_of, cut, esb_of};
 use second::words::{Kind, KINDS};
-use second::{check, encode_skipping, Format};
+use second::{check, encode_skipping, pairs_skipping, Format};
 
 /// What the program writes to standard output and to standard error. The words
 /// are its arguments.
@@ -45,6 +46,14 @@ fn capture_of_zeros() {
     assert_eq!(run("capture", ""), "balise capture 1\nbits 0\nnone\n");
 }
 
+/// The first line of an answer; that of pairs has none.
+fn heading(words: &str) -> String {
+    match words.split(' ').next().unwrap() {
+        "pairs" => String::new(),
+        kind => format!("balise {kind} 1\n"),
+    }
+}
+
 #[test]
 fn bad_input() {
     for (words, limit) in [
@@ -54,8 +63,8 @@ fn bad_input() {
         ("read-well-formed", 1100),
         ("capture", 7500),
         ("make 18 5", 830),
+        ("pairs", 830),
     ] {
-        let kind = words.split(' ').next().unwrap();
         let full = "0".repeat(limit);
         let other = String::from("balise: character 32 at byte 2\n");
         let more = format!("balise: more than {limit} bits\n");
@@ -68,7 +77,7 @@ fn bad_input() {
                 format!("balise: character 127 at byte {}\n", limit + 2),
             ),
         ] {
-            let bad = format!("balise {kind} 1\nbad\n");
+            let bad = format!("{}bad\n", heading(words));
             assert_eq!(written(words, input), [bad, line]);
         }
         run(words, &full);
@@ -268,5 +277,37 @@ fn arguments_of_make() {
         format!("make {b} {esb} -1 "),
     ] {
         assert_eq!(run(&words, &zeros), answer);
+    }
+}
+
+/// The first hundred pairs, then whether there are more; a block that is refused is
+/// bad (document 02, No. 9).
+#[test]
+fn pairs_of_a_block() {
+    let mut random = Random::new(170);
+    let few = |place| with_few_pairs(place).unwrap();
+    for (block, more) in [
+        (random.bits(210), true),
+        (random.bits(830), true),
+        (few(ONE_MORE), true),
+        (few(A_HUNDRED), false),
+        (few(808), false),
+        (block_without_a_pair(), false),
+    ] {
+        let list: Vec<_> = pairs_skipping(&block).unwrap().collect();
+        assert_eq!(list.len() > 100, more);
+        let listed = list.iter().take(100);
+        let mut expected: String = listed
+            .map(|pair| format!("{} {}\n", pair.b, pair.esb))
+            .collect();
+        expected += if more { "more\n" } else { "end\n" };
+        assert_eq!(run("pairs", &text(&block)), expected);
+    }
+    assert_eq!(pairs_skipping(&few(A_HUNDRED)).unwrap().count(), 100);
+    assert_eq!(pairs_skipping(&few(ONE_MORE)).unwrap().count(), 101);
+    for bits in [0, 1, 209, 211, 829] {
+        let why = format!("balise: a block has 830 or 210 bits, and this has {bits}\n");
+        let refused = written("pairs", &"0".repeat(bits));
+        assert_eq!(refused, [String::from("bad\n"), why]);
     }
 }
