@@ -61,6 +61,34 @@ uint64_t balise_encode_plain(const uint8_t *block, size_t block_len, uint8_t *ou
 uint64_t balise_make(const uint8_t *block, size_t block_len, uint64_t b, uint64_t esb,
                      uint8_t *output, size_t output_len);
 
+/* Gives the first pair at or after b, esb with which a block of BALISE_USER_BITS makes
+ * a proper telegram, and the telegram. The order is that of counting: by b, and then
+ * by esb. From 0, 0 it is the pair and the telegram of balise_encode.
+ * block: 830 or 210 bits. output: at least 1023 or 341 bytes; the telegram goes into
+ * its front, and the rest is kept. A refusal keeps every byte, and so does an answer
+ * with BALISE_NO_MORE.
+ * Answer: number, BALISE_NO_MORE; where that is 0 also format, BALISE_NEXT_B and _ESB.
+ * The number 0 alone does not say that there is a pair: where there are no more it is 0
+ * as well, and the fields of the pair are 0.
+ * Refusals: 1, 2, 27, 3. They are tested in this order, not in that of their numbers.
+ * 27: b is over 4095 or esb over 1023, by however much; a negative number, converted,
+ * is too large.
+ * This lists every pair, each once and in order, some hundreds as a rule:
+ *   uint64_t b = 0, esb = 0, answer;
+ *   while (b <= 4095) {
+ *       answer = balise_next(block, block_len, b, esb, output, output_len);
+ *       if (BALISE_NUMBER(answer) != 0 || BALISE_NO_MORE(answer))
+ *           break;
+ *       b = BALISE_NEXT_B(answer);
+ *       esb = BALISE_NEXT_ESB(answer);
+ *       use_pair(b, esb, output);
+ *       b += esb == 1023;
+ *       esb = (esb + 1) % 1024;
+ *   }
+ */
+uint64_t balise_next(const uint8_t *block, size_t block_len, uint64_t b, uint64_t esb,
+                     uint8_t *output, size_t output_len);
+
 /* Checks a telegram of 1023 or 341 bits.
  * Answer: number, format.
  * Refusals: 1, 2, 6 to 12. Refusal 9 has the kind and the index of the first bad
@@ -109,7 +137,7 @@ uint64_t balise_search(const uint8_t *capture, size_t capture_len);
 /* Any answer: 0, or the refusal. */
 #define BALISE_NUMBER(answer) ((unsigned)((uint64_t)(answer) & 0xff))
 
-/* Any answer without a refusal. */
+/* Any answer without a refusal; that of balise_next, where it has a pair. */
 #define BALISE_LONG 0
 #define BALISE_SHORT 1
 #define BALISE_FORMAT(answer) ((unsigned)((uint64_t)(answer) >> 8 & 1))
@@ -119,6 +147,12 @@ uint64_t balise_search(const uint8_t *capture, size_t capture_len);
 #define BALISE_ENCODED_B(answer) ((unsigned)((uint64_t)(answer) >> 9 & 0xfff))
 #define BALISE_ENCODED_ESB(answer) ((unsigned)((uint64_t)(answer) >> 21 & 0x3ff))
 #define BALISE_ENCODED_COUNT(answer) ((uint32_t)((uint64_t)(answer) >> 31 & 0x7fffff))
+
+/* balise_next: the scrambling bits, the extra shaping bits, and whether there are no
+ * more pairs (1); the others are then 0. */
+#define BALISE_NEXT_B(answer) ((unsigned)((uint64_t)(answer) >> 9 & 0xfff))
+#define BALISE_NEXT_ESB(answer) ((unsigned)((uint64_t)(answer) >> 21 & 0x3ff))
+#define BALISE_NO_MORE(answer) ((unsigned)((uint64_t)(answer) >> 31 & 1))
 
 /* balise_read, balise_read_well_formed and balise_search: whether the window is
  * flipped (1), the scrambling bits, the turn, and the extra shaping bits. The bits
@@ -150,7 +184,7 @@ uint64_t balise_search(const uint8_t *capture, size_t capture_len);
 #define BALISE_CAPTURE_LIMIT 7500
 
 /* ---- refusals, as BALISE_NUMBER gives them: the lowest that applies, except that
- * balise_make tests 27 before 3 */
+ * balise_make and balise_next test 27 before 3 */
 
 #define BALISE_REFUSED_LENGTH 1          /* the length fits no format, or is over the limit */
 #define BALISE_REFUSED_NOT_BIT 2         /* a byte other than 0 or 1 */

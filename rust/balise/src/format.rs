@@ -49,8 +49,8 @@ impl Format {
 /// The bits of the largest user block: room for what [`read`](crate::read) writes.
 pub const MAX_USER_BITS: usize = Format::Long.user_bits();
 
-/// The bits of the largest telegram: room for what [`encode`](crate::encode) and
-/// [`make`](crate::make) write.
+/// The bits of the largest telegram: room for what [`encode`](crate::encode),
+/// [`make`](crate::make) and [`next`](crate::next) write.
 pub const MAX_TELEGRAM_BITS: usize = Format::Long.telegram_bits();
 
 /// The bits of the largest window.

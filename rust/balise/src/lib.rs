@@ -30,6 +30,15 @@
 //! let (kind, index) = (Kind::Group250, 21);
 //! let refused = Err(Refusal::NotWord { kind, index });
 //! assert_eq!(balise::make(user, 0, 0, &mut again), refused);
+//!
+//! // every pair that gives a proper telegram, in counting order
+//! let mut pairs = balise::pairs(&block)?;
+//! let first = pairs.next().expect("the pair of encode");
+//! assert_eq!((first.pair.b, first.pair.esb), (encoded.b, encoded.esb));
+//! assert_eq!(first.telegram, telegram);
+//! for choice in pairs.take(9) {
+//!     assert_eq!(balise::check(&choice.telegram), Ok(choice.pair.format));
+//! }
 //! # Ok::<(), Refusal>(())
 //! ```
 //!
@@ -40,10 +49,12 @@
 
 mod format;
 mod kind;
+mod pairs;
 mod refusal;
 
 pub use format::{Format, CAPTURE_LIMIT, MAX_TELEGRAM_BITS, MAX_USER_BITS, MAX_WINDOW_BITS};
 pub use kind::Kind;
+pub use pairs::{pairs, pairs_from, Choice, Pair, Pairs};
 pub use refusal::Refusal;
 
 mod exported {
@@ -61,6 +72,14 @@ mod exported {
             output_len: usize,
         ) -> u64;
         pub fn balise_make(
+            block: *const u8,
+            block_len: usize,
+            b: u64,
+            esb: u64,
+            output: *mut u8,
+            output_len: usize,
+        ) -> u64;
+        pub fn balise_next(
             block: *const u8,
             block_len: usize,
             b: u64,
@@ -146,6 +165,17 @@ impl Answer {
         }
     }
 
+    /// The fields of `encoded`, with a bit in the place of the count: it is 1 where
+    /// there are no more pairs.
+    fn pair(&mut self) -> Option<Pair> {
+        let pair = Pair {
+            format: self.format(),
+            b: self.take(12) as u16,
+            esb: self.take(10) as u16,
+        };
+        (self.take(1) == 0).then_some(pair)
+    }
+
     /// The fields of a window's answer are those of a search; the place is 0.
     fn reading(&mut self) -> Reading {
         self.found().reading
@@ -214,6 +244,24 @@ fn answer(call: WithOutput, input: &[u8], output: &mut [u8]) -> Answer {
     })
 }
 
+/// A call that takes a block, a pair and an output.
+type WithPair = unsafe extern "C" fn(*const u8, usize, u64, u64, *mut u8, usize) -> u64;
+
+/// What one of the calls with a pair answers.
+fn answer_to_pair(call: WithPair, block: &[u8], b: u64, esb: u64, output: &mut [u8]) -> Answer {
+    // SAFETY: as for `answer`.
+    Answer(unsafe {
+        call(
+            block.as_ptr(),
+            block.len(),
+            b,
+            esb,
+            output.as_mut_ptr(),
+            output.len(),
+        )
+    })
+}
+
 /// What one of the encoders answers.
 fn encode_by(call: WithOutput, block: &[u8], output: &mut [u8]) -> Result<Encoded, Refusal> {
     answer(call, block, output).result(Answer::encoded)
@@ -256,19 +304,23 @@ pub fn encode_plain(block: &[u8], output: &mut [u8]) -> Result<Encoded, Refusal>
 /// pairs. The word it names is one of the last ten: those before them come from the
 /// table.
 pub fn make(block: &[u8], b: u64, esb: u64, output: &mut [u8]) -> Result<Format, Refusal> {
-    // SAFETY: the pointers and lengths are those of slices that do not overlap,
-    // and the contract asks nothing.
-    let answer = Answer(unsafe {
-        exported::balise_make(
-            block.as_ptr(),
-            block.len(),
-            b,
-            esb,
-            output.as_mut_ptr(),
-            output.len(),
-        )
-    });
-    answer.result(Answer::format)
+    answer_to_pair(exported::balise_make, block, b, esb, output).result(Answer::format)
+}
+
+/// The first pair at or after `b`, `esb`, in counting order, with which a block of
+/// [`Format::user_bits`], 830 or 210, gives a proper telegram; the telegram goes into
+/// the front of `output`, which needs room for [`Format::telegram_bits`], 1023 or 341;
+/// [`MAX_TELEGRAM_BITS`] is enough for both. `None` where there are no more; `output`
+/// is then kept, as a refusal keeps it. Counting order goes by B, and then by esb.
+///
+/// From 0, 0 it is the pair and the telegram of [`encode`]; and where that refuses
+/// with `NoPair`, `None`. Going on from [`Pair::after`] of each answer gives every
+/// pair: [`pairs`] does so.
+///
+/// Refuses, tested in this order, with `Length`, `NotBit`, `PairTooLarge` where `b` is
+/// over 4095 or `esb` over 1023, and `OutputShort`.
+pub fn next(block: &[u8], b: u64, esb: u64, output: &mut [u8]) -> Result<Option<Pair>, Refusal> {
+    answer_to_pair(exported::balise_next, block, b, esb, output).result(Answer::pair)
 }
 
 /// The format of a proper telegram, of [`Format::telegram_bits`], 1023 or 341.

@@ -1,12 +1,13 @@
-//! The refusals (document 01, "When the bench says no"; document 02, No. 11 and
-//! No. 13).
+//! The refusals (document 01, "When the bench says no"; document 02, No. 9, No. 11
+//! and No. 13).
 
 use std::fmt;
 
 use crate::Kind;
 
 /// Why a call refuses. Of several reasons it is the one with the lowest number;
-/// but [`make`](crate::make) tests `PairTooLarge` before `OutputShort`.
+/// but [`make`](crate::make) and [`next`](crate::next) test `PairTooLarge` before
+/// `OutputShort`.
 #[derive(Clone, Copy, Debug, PartialEq, Eq, Hash)]
 #[non_exhaustive]
 pub enum Refusal {
