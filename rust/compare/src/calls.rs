@@ -5,7 +5,7 @@ use second::bits::{flip, turn_right};
 use second::format::Format;
 use second::random::Random;
 use second::telegram::cut;
-use second::{Encoded, Found, Kind, Reading, Refusal};
+use second::{Encoded, Found, Kind, Next, Reading, Refusal};
 use std::collections::{BTreeMap, BTreeSet};
 
 /// How often each number was answered; 0 stands for no refusal. And how often
@@ -201,6 +201,51 @@ pub fn make(
         [|output: &mut [u8]| balise::make(block, b, esb, output).map(format)],
         |output| second::make(block, b, esb, output),
         |format| format.telegram_bits(),
+    )
+}
+
+/// What next answers, and the output.
+pub type Listed = (Result<Option<Next>, Refusal>, Vec<u8>);
+
+/// The second program's search for the next pair, or its quicker one.
+pub type Search = fn(&[u8], u64, u64, &mut [u8]) -> Result<Option<Next>, Refusal>;
+
+/// Gives the next pair of a block at or after one, into an output of this length:
+/// ours or another in its place, and what it is compared with.
+pub fn next_by(
+    random: &mut Random,
+    ours: impl FnOnce(&mut [u8]) -> Result<Option<balise::Pair>, balise::Refusal>,
+    second: impl FnOnce(&mut [u8]) -> Result<Option<Next>, Refusal>,
+    room: usize,
+) -> Listed {
+    let next = |pair: balise::Pair| Next {
+        format: format(pair.format),
+        b: pair.b,
+        esb: pair.esb,
+    };
+    compared(
+        random,
+        room,
+        [|output: &mut [u8]| ours(output).map(|pair| pair.map(next))],
+        second,
+        |next| next.map_or(0, |next| next.format.telegram_bits()),
+    )
+}
+
+/// The next pair of a block at or after B and esb, into an output of this length: the
+/// answer and the output.
+pub fn next(
+    random: &mut Random,
+    second: Search,
+    block: &[u8],
+    (b, esb): (u64, u64),
+    room: usize,
+) -> Listed {
+    next_by(
+        random,
+        |output| balise::next(block, b, esb, output),
+        |output| second(block, b, esb, output),
+        room,
     )
 }
 

@@ -3,6 +3,8 @@
 
 pub mod calls;
 pub mod documents;
+pub mod faults;
+pub mod lists;
 pub mod programs;
 pub mod refusals;
 pub mod telegrams;

@@ -20,16 +20,28 @@ const fn program(name: &'static str, word: &'static str, limit: usize) -> Progra
     Program { name, word, limit }
 }
 
-pub const PROGRAMS: [Program; 6] = [
+pub const PROGRAMS: [Program; 7] = [
     program("encode_block", "encode", MAX_USER_BITS),
     program("check_telegram", "check", MAX_TELEGRAM_BITS),
     program("read_window", "read", MAX_WINDOW_BITS),
     program("read_well_formed", "read-well-formed", MAX_WINDOW_BITS),
     program("search_capture", "capture", CAPTURE_LIMIT),
     program("make_telegram", "make", MAX_USER_BITS),
+    program("list_pairs", LIST, MAX_USER_BITS),
 ];
 
+/// The word of the program whose answers have no heading.
+const LIST: &str = "pairs";
+
 impl Program {
+    /// The first line of its answers, if they have one.
+    pub fn heading(&self) -> String {
+        match self.word {
+            LIST => String::new(),
+            word => format!("balise {word} 1\n"),
+        }
+    }
+
     /// The arguments of its stored example, a line each; most programs take none.
     pub fn arguments(&self) -> Vec<String> {
         let path = repository().join("crates").join(self.name).join("args");

@@ -1,6 +1,6 @@
 //! Inputs that provoke each refusal (document 01, "When the bench says no"; of
-//! the window calls, document 02, No. 2, of make, No. 11, and of a word that is not
-//! in the table, No. 13).
+//! the window calls, document 02, No. 2, of make, No. 11, of next, No. 9, and of a word
+//! that is not in the table, No. 13).
 
 use crate::telegrams::*;
 use balise::{Kind, Refusal};
@@ -22,6 +22,8 @@ pub enum Call {
     EncodePlain(Vec<u8>, usize),
     /// The block, B, esb and the room.
     Make(Vec<u8>, u64, u64, usize),
+    /// The same.
+    Next(Vec<u8>, u64, u64, usize),
     Check(Vec<u8>),
     Read(Vec<u8>, usize),
     ReadWellFormed(Vec<u8>, usize),
@@ -35,6 +37,7 @@ impl Call {
             Call::Encode(..) => "encode",
             Call::EncodePlain(..) => "encode_plain",
             Call::Make(..) => "make",
+            Call::Next(..) => "next",
             Call::Check(..) => "check",
             Call::Read(..) => "read",
             Call::ReadWellFormed(..) => "read_well_formed",
@@ -51,6 +54,9 @@ impl Call {
             }
             Call::Make(block, b, esb, room) => {
                 balise::make(block, *b, *esb, &mut vec![0; *room]).err()
+            }
+            Call::Next(block, b, esb, room) => {
+                balise::next(block, *b, *esb, &mut vec![0; *room]).err()
             }
             Call::Check(telegram) => balise::check(telegram).err(),
             Call::Read(window, room) => balise::read(window, &mut vec![0; *room]).err(),
@@ -210,28 +216,40 @@ fn no_last_words(block: &[u8], b: u16, format: Format) -> Vec<(Refusal, Call)> {
     calls
 }
 
-/// A block with a pair that makes a telegram of it, given to make with one fault
-/// each: refusals 1, 2, 27, 3 and 9.
-fn of_make(random: &mut Random, format: Format) -> Vec<(Refusal, Call)> {
+/// A block, B, esb and room that both make and next refuse alike.
+fn both_with_pair(
+    refusal: Refusal,
+    block: &[u8],
+    (b, esb): (u64, u64),
+    room: usize,
+) -> [(Refusal, Call); 2] {
+    [
+        (refusal, Call::Make(block.to_vec(), b, esb, room)),
+        (refusal, Call::Next(block.to_vec(), b, esb, room)),
+    ]
+}
+
+/// A block with its pair, given to make and next with one fault each: refusals 1, 2,
+/// 27 and 3; and refusal 9 of make.
+fn of_make_and_next(random: &mut Random, format: Format) -> Vec<(Refusal, Call)> {
     let n = format.telegram_bits();
     let block = random.bits(format.user_bits());
     let pair = encoded(&block).0;
     let (b, esb) = (u64::from(pair.b), u64::from(pair.esb));
     let longer = [&block[..], &[0]].concat();
+    let no_bit = with_no_bit(block.clone());
     let mut calls = no_last_words(&block, pair.b, format);
-    calls.extend([
-        (Refusal::Length, Call::Make(longer, b, esb, n)),
-        (
-            Refusal::NotBit,
-            Call::Make(with_no_bit(block.clone()), b, esb, n),
-        ),
-        (
-            Refusal::PairTooLarge,
-            Call::Make(block.clone(), 4096, esb, n),
-        ),
-        (Refusal::PairTooLarge, Call::Make(block.clone(), b, 1024, n)),
-        (Refusal::OutputShort, Call::Make(block, b, esb, n - 1)),
-    ]);
+    calls.extend(both_with_pair(Refusal::Length, &longer, (b, esb), n));
+    calls.extend(both_with_pair(Refusal::NotBit, &no_bit, (b, esb), n));
+    for start in [(4096, esb), (b, 1024)] {
+        calls.extend(both_with_pair(Refusal::PairTooLarge, &block, start, n));
+    }
+    calls.extend(both_with_pair(
+        Refusal::OutputShort,
+        &block,
+        (b, esb),
+        n - 1,
+    ));
     calls
 }
 
@@ -253,7 +271,7 @@ pub fn provoking(random: &mut Random) -> Vec<(Refusal, Call)> {
     for format in FORMATS {
         calls.extend(before_the_bits(random, format));
         calls.extend(not_well_formed(random, format));
-        calls.extend(of_make(random, format));
+        calls.extend(of_make_and_next(random, format));
     }
     calls.extend(not_proper());
     calls

@@ -1,7 +1,7 @@
 /* Prints the sizes, and what the calls answer on 462 zeros and on a capture from
  * standard input, one bit to a byte; check and the window calls also on all of it.
  * What was read is made again, made with other pairs, and encoded, by the plain search
- * too. */
+ * too; all its pairs are listed. */
 #include "balise.h"
 
 #include <stdio.h>
@@ -117,6 +117,69 @@ static int print_too_large(const uint8_t *user, uint64_t reading)
     return 0;
 }
 
+/* The length of the telegrams that use_pair prints. */
+static int telegram_bits;
+
+/* Prints a pair and its telegram. */
+static void use_pair(uint64_t b, uint64_t esb, const uint8_t *output)
+{
+    printf("pair %lu %lu\n", (unsigned long)b, (unsigned long)esb);
+    print_bits(output, telegram_bits);
+}
+
+/* Prints all pairs of a block: the loop is that of balise.h. */
+static void print_pairs(const uint8_t *block, size_t block_len, uint8_t *output,
+                        size_t output_len)
+{
+    uint64_t b = 0, esb = 0, answer;
+    while (b <= 4095) {
+        answer = balise_next(block, block_len, b, esb, output, output_len);
+        if (BALISE_NUMBER(answer) != 0 || BALISE_NO_MORE(answer))
+            break;
+        b = BALISE_NEXT_B(answer);
+        esb = BALISE_NEXT_ESB(answer);
+        use_pair(b, esb, output);
+        b += esb == 1023;
+        esb = (esb + 1) % 1024;
+    }
+}
+
+/* Prints the fields of an answer of next, and the bits that have no field. */
+static void print_next(uint64_t answer)
+{
+    printf("next %u %u %u %u %u %lu\n", BALISE_NUMBER(answer), BALISE_FORMAT(answer),
+           BALISE_NEXT_B(answer), BALISE_NEXT_ESB(answer), BALISE_NO_MORE(answer),
+           (unsigned long)(answer >> 32));
+}
+
+/* Prints what is next from some starts, lent room and not. Returns 1 where a byte of
+ * the output is changed by an answer without a pair. */
+static int print_starts(const uint8_t *user, uint64_t reading)
+{
+    uint8_t telegram[BALISE_TELEGRAM_BITS(BALISE_LONG)];
+    size_t m = BALISE_USER_BITS(BALISE_FORMAT(reading));
+    size_t n = BALISE_TELEGRAM_BITS(BALISE_FORMAT(reading)), j;
+    uint64_t b = BALISE_READ_B(reading), esb = BALISE_READ_ESB(reading);
+    int negative = -1;
+
+    print_next(balise_next(user, m, 0, 0, telegram, sizeof telegram));
+    print_next(balise_next(user, m, b, esb, telegram, n));
+    print_next(balise_next(user, m, b + 1, 0, telegram, n));
+    memset(telegram, 7, sizeof telegram);
+    print_next(balise_next(user, m, 4095, 1023, telegram, n));
+    print_next(balise_next(user, m - 1, b, esb, telegram, n));
+    print_next(balise_next(telegram, m, b, esb, telegram + m, 0));
+    print_next(balise_next(user, m, 4096, esb, telegram, 0));
+    print_next(balise_next(user, m, b, 1024, telegram, n));
+    print_next(balise_next(user, m, (uint64_t)negative, esb, telegram, n));
+    print_next(balise_next(user, m, b, (uint64_t)1 << 32 | esb, telegram, n));
+    print_next(balise_next(user, m, b, esb, telegram, n - 1));
+    for (j = 0; j < sizeof telegram; j++)
+        if (telegram[j] != 7)
+            return 1;
+    return 0;
+}
+
 /* Prints the answer of one of the encoders, and the telegram. */
 static void print_encoded(const char *call, uint64_t answer, const uint8_t *telegram)
 {
@@ -167,8 +230,10 @@ int main(void)
     print_reading("read", answer);
     print_made(user, answer);
     print_other_pairs(user, answer);
-    if (print_too_large(user, answer))
+    if (print_too_large(user, answer) || print_starts(user, answer))
         return 1;
+    telegram_bits = BALISE_TELEGRAM_BITS(format);
+    print_pairs(user, BALISE_USER_BITS(format), telegram, sizeof telegram);
 
     answer = balise_encode_plain(user, BALISE_USER_BITS(format), telegram, sizeof telegram);
     print_encoded("encode_plain", answer, telegram);

@@ -1,8 +1,9 @@
 //! A C program against include/balise.h and the static library: its answers are
 //! those of the balise package.
 
-use balise::{Encoded, Format, Found, Reading, Refusal};
+use balise::{Choice, Encoded, Format, Found, Pair, Reading, Refusal};
 use balise::{CAPTURE_LIMIT, MAX_TELEGRAM_BITS, MAX_USER_BITS};
+use compare::documents::document;
 use compare::programs::{repository, run, stdout};
 use compare::telegrams::{random_telegram, with_word};
 use second::appendices::well_formed_not_proper;
@@ -104,6 +105,48 @@ fn other_pairs(user: &[u8], reading: &Reading) -> String {
     [(0, 0)].into_iter().chain(with_b).map(&mut line).collect()
 }
 
+/// The line of an answer of next. The bits that have no field are 0.
+fn next_line(answer: Result<Option<Pair>, Refusal>) -> String {
+    match answer {
+        Ok(Some(Pair { format, b, esb })) => {
+            format!("next 0 {} {b} {esb} 0 0\n", format_bit(format))
+        }
+        Ok(None) => String::from("next 0 0 0 0 1 0\n"),
+        Err(refusal) => refusal_line("next", refusal, 5),
+    }
+}
+
+/// The lines of what is next from some starts, and those of all pairs.
+fn pair_lines(user: &[u8], reading: &Reading) -> String {
+    let user = &user[..reading.format.user_bits()];
+    let (b, esb) = (u64::from(reading.b), u64::from(reading.esb));
+    let n = reading.format.telegram_bits();
+    let mut telegram = [0; MAX_TELEGRAM_BITS];
+    let mut line =
+        |block, b, esb, room| next_line(balise::next(block, b, esb, &mut telegram[..room]));
+    let mut lines = [
+        line(user, 0, 0, MAX_TELEGRAM_BITS),
+        line(user, b, esb, n),
+        line(user, b + 1, 0, n),
+        line(user, 4095, 1023, n),
+        line(&user[1..], b, esb, n),
+        line(&vec![7; user.len()], b, esb, 0),
+        line(user, 4096, esb, 0),
+        line(user, b, 1024, n),
+        line(user, u64::MAX, esb, n),
+        line(user, b, 1 << 32 | esb, n),
+        line(user, b, esb, n - 1),
+    ]
+    .concat();
+    let numbers = [1, 2, 27, 27, 27, 27, 3].map(|number| format!("next {number} 0 0 0 0 0\n"));
+    assert!(lines.ends_with(&(String::from("next 0 0 0 0 1 0\n") + &numbers.concat())));
+    for Choice { pair, telegram } in balise::pairs(user).expect("a block") {
+        writeln!(lines, "pair {} {}", pair.b, pair.esb).unwrap();
+        writeln!(lines, "{}", text(&telegram)).unwrap();
+    }
+    lines
+}
+
 fn sizes() -> String {
     let mut lines = String::new();
     for format in Format::ALL {
@@ -146,6 +189,7 @@ fn expected(capture: &[u8]) -> String {
     lines += &other_pairs(&user, &found.reading);
     let too_large = Refusal::PairTooLarge.number();
     lines += &format!("make {too_large} 0 0\n").repeat(4);
+    lines += &pair_lines(&user, &found.reading);
     let format = found.reading.format;
     let (m, n) = (format.user_bits(), format.telegram_bits());
     let mut telegram = [0; MAX_TELEGRAM_BITS];
@@ -165,6 +209,27 @@ fn expected(capture: &[u8]) -> String {
     telegram[0] ^= 1;
     lines += &format_line("check", balise::check(&telegram[..n]));
     lines
+}
+
+/// The loop that the header shows is the one that the C program runs.
+#[test]
+fn the_loop_of_the_header() {
+    let (header, program) = (
+        document("include/balise.h"),
+        document("rust/compare/tests/header.c"),
+    );
+    let (_, shown) = header.split_once("This lists every pair").expect("a loop");
+    let (shown, _) = shown.split_once("*/").expect("its end");
+    let lines = shown.lines().skip(1).map(|line| {
+        let line = line.trim_start_matches(" *").trim_end();
+        line.strip_prefix("   ").unwrap_or(line)
+    });
+    let shown: String = lines
+        .filter(|line| !line.is_empty())
+        .map(|line| format!("    {line}\n"))
+        .collect();
+    assert!(shown.contains("    while (") && shown.ends_with("\n    }\n"));
+    assert!(program.contains(&shown), "{shown}");
 }
 
 #[test]

@@ -1,32 +1,32 @@
-//! Any bytes to the six calls: 200,000 calls in all, or as many as the variable
+//! Any bytes to the seven calls: 200,000 calls in all, or as many as the variable
 //! BALISE_CALLS says. Every answer, with what a refusal carries, and every byte of
 //! the outputs and around them is that of the second program. Encode goes by both
 //! engines, wherever it does not search, and for some of the blocks for which it
-//! does.
+//! does. Encode and next search for some of the blocks that they could search for.
 
-use compare::calls::{check, encode, encode_by_both, make, read_both, search, Tally};
+use compare::calls::{check, encode, encode_by_both, make, next, read_both, search, Tally};
 use compare::telegrams::*;
 use compare::{asked, burst, patterns};
 use second::appendices::appendix_b;
 use second::bad_words::{bad_telegrams, BadTelegram};
 use second::bits::all_bits;
-use second::encode_skipping;
 use second::format::{Format, FORMATS};
 use second::random::Random;
 use second::read::user_bits_of;
 use second::telegram::{b_of, cut, esb_of, well_formed};
 use second::words::KINDS;
+use second::{encode_skipping, next_skipping};
 use std::collections::BTreeSet;
 
 /// Telegrams of each format besides those of Appendix B.
 const TELEGRAMS: usize = 12;
 
-/// Most bytes given to encode, make, check and read, and to search.
+/// Most bytes given to encode, make, next, check and read, and to search.
 const LENGTH: usize = 2200;
 const CAPTURE: usize = 7600;
 
-/// Of so many blocks that would be encoded, one is.
-const ENCODED: usize = 10;
+/// Of so many blocks that would be encoded, or searched for the next pair, one is.
+const SEARCHED: usize = 10;
 
 /// Of so many blocks that are encoded, one is by the plain engine too.
 const BY_BOTH: usize = 10;
@@ -278,6 +278,26 @@ impl Inputs {
         }
     }
 
+    /// The room for the telegram of a block, and whether a call would search for it, as
+    /// it would where its numbers are good too. Of most such blocks a byte is changed to
+    /// one that is no bit, or the room is made too short, so that it does not.
+    fn seldom_searched(&mut self, block: &mut [u8], numbers: bool) -> (usize, bool) {
+        let format = Format::of_block(block.len());
+        let needed = format.unwrap_or(Format::Long).telegram_bits();
+        let room = self.room(needed);
+        let searched = format.is_some() && all_bits(block) && numbers && room >= needed;
+        if !searched || self.one_in(SEARCHED) {
+            return (room, searched);
+        }
+        if self.one_in(2) {
+            let place = self.random.below(block.len());
+            block[place] = 2 + self.random.below(254) as u8;
+            (room, false)
+        } else {
+            (self.random.below(needed), false)
+        }
+    }
+
     /// The length of an output: any, or about the room that is needed.
     fn room(&mut self, needed: usize) -> usize {
         match self.random.below(4) {
@@ -300,21 +320,9 @@ fn encode_any_bytes() {
     let mut inputs = Inputs::new(101);
     let mut tally = Tally::default();
     let mut plain = 0;
-    for _ in 0..share(18) {
+    for _ in 0..share(14) {
         let mut block = inputs.list([830, 210], true);
-        let format = Format::of_block(block.len());
-        let needed = format.unwrap_or(Format::Long).telegram_bits();
-        let mut room = inputs.room(needed);
-        let mut searched = format.is_some() && all_bits(&block) && room >= needed;
-        if searched && !inputs.one_in(ENCODED) {
-            searched = false;
-            if inputs.one_in(2) {
-                let place = inputs.random.below(block.len());
-                block[place] = 2 + inputs.random.below(254) as u8;
-            } else {
-                room = inputs.random.below(needed);
-            }
-        }
+        let (room, searched) = inputs.seldom_searched(&mut block, true);
         let (buffer, at) = moved(&mut inputs.random, &block);
         let encode = if searched && !inputs.one_in(BY_BOTH) {
             encode
@@ -335,7 +343,7 @@ fn make_any_bytes() {
     let mut inputs = Inputs::new(105);
     inputs.add_barred();
     let mut tally = Tally::default();
-    for _ in 0..share(12) {
+    for _ in 0..share(8) {
         let (block, b, esb) = inputs.block_and_pair();
         let format = Format::of_block(block.len()).unwrap_or(Format::Long);
         let room = inputs.room(format.telegram_bits());
@@ -345,6 +353,28 @@ fn make_any_bytes() {
     tally.print("calls of make, by number");
     assert_eq!(tally.numbers(), [0, 1, 2, 3, 9, 27]);
     assert_eq!(tally.kinds(), BTreeSet::from(KINDS));
+}
+
+#[test]
+fn next_any_bytes() {
+    let mut inputs = Inputs::new(106);
+    inputs.add_barred();
+    let mut tally = Tally::default();
+    let mut no_more = 0;
+    for _ in 0..share(8) {
+        let (mut block, b, esb) = inputs.block_and_pair();
+        let numbers = b <= 4095 && esb <= 1023;
+        let (room, _) = inputs.seldom_searched(&mut block, numbers);
+        let (buffer, at) = moved(&mut inputs.random, &block);
+        let random = &mut inputs.random;
+        let (answer, _) = next(random, next_skipping, &buffer[at..], (b, esb), room);
+        no_more += usize::from(answer == Ok(None));
+        tally.add(answer);
+    }
+    tally.print("calls of next, by number");
+    println!("      of those with 0 no more is said by {no_more}");
+    assert_eq!(tally.numbers(), [0, 1, 2, 3, 27]);
+    assert!(no_more > 0);
 }
 
 #[test]

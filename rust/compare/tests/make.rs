@@ -2,14 +2,14 @@
 //! order, and every byte of the output (document 02, No. 11).
 
 use compare::calls::{check, encode_by_both, make, Tally};
+use compare::faults::{self, Given};
 use compare::telegrams::*;
-use compare::{both_formats, other_lengths, patterns};
+use compare::{both_formats, patterns};
 use second::appendices::appendix_b;
 use second::encode_skipping;
 use second::format::{Format, FORMATS};
 use second::random::Random;
 use second::read::user_bits_of;
-use second::telegram::{b_of, esb_of};
 use second::words::KINDS;
 use second::Refusal;
 use std::collections::BTreeSet;
@@ -17,38 +17,8 @@ use std::collections::BTreeSet;
 /// Random blocks of each format, each with a random pair.
 const PAIRS: usize = 30_000;
 
-/// A block with a pair that makes a telegram of it.
-#[derive(Clone)]
-struct Good {
-    block: Vec<u8>,
-    b: u64,
-    esb: u64,
-}
-
-impl Good {
-    fn random(random: &mut Random, format: Format) -> Good {
-        let block = random.bits(format.user_bits());
-        let pair = encoded(&block).0;
-        Good {
-            block,
-            b: pair.b.into(),
-            esb: pair.esb.into(),
-        }
-    }
-
-    /// What a well-formed telegram is made of.
-    fn of_telegram(telegram: &[u8]) -> Good {
-        let format = Format::of_telegram(telegram.len()).unwrap();
-        Good {
-            block: user_bits_of(telegram, format).unwrap(),
-            b: b_of(telegram, format).into(),
-            esb: esb_of(telegram, format).into(),
-        }
-    }
-}
-
 /// The telegram is made, in an output of its size and in larger ones.
-fn make_exactly(random: &mut Random, good: &Good, telegram: &[u8]) {
+fn make_exactly(random: &mut Random, good: &Given, telegram: &[u8]) {
     let n = telegram.len();
     for room in [n, n + 1, n + 7, n + random.below(900)] {
         let (answer, output) = make(random, &good.block, good.b, good.esb, room);
@@ -96,7 +66,7 @@ fn random_pairs() {
 fn every_esb_and_every_b() {
     both_formats(122, |format, random| {
         let mut tally = Tally::default();
-        let good = Good::random(random, format);
+        let good = Given::random(random, format);
         let n = format.telegram_bits();
         for esb in 0..1024 {
             tally.add(make(random, &good.block, good.b, esb, n).0);
@@ -130,7 +100,7 @@ fn pairs_of_the_encoder() {
         let (answer, telegram) = encode_by_both(&mut random, encode_skipping, &block, n);
         let pair = answer.unwrap();
         let (b, esb) = (pair.b.into(), pair.esb.into());
-        make_exactly(&mut random, &Good { block, b, esb }, &telegram);
+        make_exactly(&mut random, &Given { block, b, esb }, &telegram);
     }
 }
 
@@ -143,115 +113,52 @@ fn telegrams_from_their_fields() {
     let mut telegrams: Vec<Vec<u8>> = appendix_b().iter().map(|row| row.telegram_bits()).collect();
     telegrams.extend(kept_not_proper());
     for telegram in telegrams {
-        make_exactly(&mut random, &Good::of_telegram(&telegram), &telegram);
+        make_exactly(&mut random, &Given::of_telegram(&telegram), &telegram);
         tally.add(check(&telegram));
     }
     tally.print("telegrams made again from their own fields, by the check's number");
     assert_eq!(tally.numbers(), [0, 10, 11, 12]);
 }
 
-/// Compares a call that is refused with this number.
-fn refuse(random: &mut Random, call: &Good, room: usize, number: u8) {
-    let (answer, _) = make(random, &call.block, call.b, call.esb, room);
-    assert_eq!(answer, Err(Refusal::Number(number)));
+/// The number of the refusal, if make refuses.
+fn refused(random: &mut Random, given: &Given, room: usize) -> Option<u8> {
+    let (answer, _) = make(random, &given.block, given.b, given.esb, room);
+    answer.err().map(Refusal::number)
 }
 
-/// The numbers that are tested, in the order of the tests.
-const ORDER: [u8; 5] = [1, 2, 27, 3, 9];
-
-/// A call with these faults, and its room: of each kind some variants.
-fn with_faults(
-    random: &mut Random,
-    good: &Good,
-    format: Format,
-    has: impl Fn(u8) -> bool,
-) -> (Good, usize) {
-    let (m, n) = (format.user_bits(), format.telegram_bits());
-    let mut call = good.clone();
-    if has(9) {
-        call.esb = no_telegram(&good.block, good.b as u16, format).into();
-    }
-    if has(27) {
-        match random.below(3) {
-            0 => call.b = too_large(random, 12, good.b),
-            1 => call.esb = too_large(random, 10, good.esb),
-            _ => {
-                call.b = too_large(random, 12, good.b);
-                call.esb = too_large(random, 10, good.esb);
-            }
-        }
-    }
-    if has(2) {
-        for _ in 0..1 + random.below(3) {
-            call.block[random.below(m)] = 2 + random.below(254) as u8;
-        }
-    }
-    if has(1) {
-        let lengths = [0, 1, n, 209, 211, 829, 831];
-        // of no bytes at all none is other than 0 or 1
-        let least = usize::from(has(2));
-        let length = lengths[least + random.below(lengths.len() - least)];
-        call.block.resize(length, 0);
-        if has(2) {
-            call.block[random.below(length)] = 2;
-        }
-    }
-    let room = match (has(3), random.below(3)) {
-        (true, 0) => 0,
-        (true, 1) => n - 1,
-        (true, _) => random.below(n),
-        (false, 0) => n,
-        (false, 1) => n + 7,
-        (false, _) => n + random.below(900),
-    };
-    (call, room)
-}
-
-/// A number that does not fit in so many bits; in some its lowest bits alone are
-/// those of a good number.
-fn too_large(random: &mut Random, bits: usize, good: u64) -> u64 {
-    let (shift, any) = (bits + random.below(64 - bits), random.number());
-    match random.below(4) {
-        0 => 1 << bits,
-        1 => any | 1 << shift,
-        _ => good | 1 << shift,
-    }
-}
-
-/// Every combination of faults: the refusal is the first of them in the order of
-/// the tests, which is not that of the numbers.
+/// Every combination of faults. Number 9: an esb that makes no telegram of the block.
 #[test]
 fn combinations_of_faults() {
     let mut random = Random::new(125);
     let mut tally = Tally::default();
     for format in FORMATS {
         for _ in 0..60 {
-            let good = Good::random(&mut random, format);
-            for faults in 0..1 << ORDER.len() {
-                let has = |number| {
-                    let at = ORDER.iter().position(|&other| other == number);
-                    faults >> at.expect("a number") & 1 == 1
-                };
-                let (call, room) = with_faults(&mut random, &good, format, has);
-                let (answer, _) = make(&mut random, &call.block, call.b, call.esb, room);
-                let first = ORDER.into_iter().find(|&number| has(number));
-                assert_eq!(answer.err().map(Refusal::number), first, "{faults:b}");
+            let good = Given::random(&mut random, format);
+            let no_word = |number| {
+                let mut other = good.clone();
+                other.esb = no_telegram(&good.block, good.b as u16, format).into();
+                (number == 9).then_some(other)
+            };
+            let mut compare = |random: &mut Random, given: &Given, room| {
+                let (answer, _) = make(random, &given.block, given.b, given.esb, room);
                 tally.add(answer);
-            }
+                answer.err().map(Refusal::number)
+            };
+            let order = [1, 2, 27, 3, 9];
+            faults::combinations(&mut random, &order, &good, no_word, &mut compare);
         }
     }
     tally.print("calls of make with every combination of faults, by number");
     assert_eq!(tally.numbers(), [0, 1, 2, 3, 9, 27]);
 }
 
-/// 4095 and 1023 are the last that are not too large. What is too large is not
-/// cut off: the lowest bits of some are a good number.
+/// 4095 and 1023 are the last that are not too large.
 #[test]
 fn numbers_too_large() {
     both_formats(126, |format, random| {
         let n = format.telegram_bits();
         for _ in 0..5 {
-            let good = Good::random(random, format);
+            let good = Given::random(random, format);
             make_exactly(random, &good, &telegram_of(&good.block));
             for (b, esb) in [
                 (4095, good.esb),
@@ -264,84 +171,31 @@ fn numbers_too_large() {
                 let (answer, _) = make(random, &good.block, b, esb, n);
                 assert!(matches!(answer, Ok(_) | Err(Refusal::Word { .. })));
             }
-            let u32_max = u64::from(u32::MAX);
-            for b in [
-                4096,
-                4097,
-                good.b | 1 << 12,
-                65_535,
-                65_536,
-                u32_max,
-                1 << 32,
-                (1 << 32) + good.b,
-                1 << 63,
-                (1 << 63) + good.b,
-                (-1_i32) as u64,
-                u64::MAX,
-            ] {
-                for room in [0, n, n + 7] {
-                    refuse(random, &Good { b, ..good.clone() }, room, 27);
-                }
-            }
-            for esb in [
-                1024,
-                1025,
-                good.esb | 1 << 10,
-                4095,
-                65_536,
-                u32_max,
-                (1 << 32) + good.esb,
-                1 << 63,
-                (1 << 63) + good.esb,
-                u64::MAX,
-            ] {
-                for b in [good.b, 4095, 4096, u64::MAX] {
-                    let block = good.block.clone();
-                    refuse(random, &Good { block, b, esb }, n, 27);
-                }
-            }
+            faults::numbers_too_large(random, &good, &mut refused);
         }
     });
 }
 
-/// Every output that is too short, and the one that is just large enough.
 #[test]
 fn outputs_that_are_too_short() {
     both_formats(127, |format, random| {
-        let good = Good::random(random, format);
-        for room in 0..format.telegram_bits() {
-            refuse(random, &good, room, 3);
-        }
+        let good = Given::random(random, format);
+        faults::outputs_that_are_too_short(random, &good, &mut refused);
         make_exactly(random, &good, &telegram_of(&good.block));
     });
 }
 
-/// Each byte of the block, with a pair that is good and one that is too large.
 #[test]
 fn bytes_that_are_no_bits() {
     both_formats(128, |format, random| {
-        let n = format.telegram_bits();
-        let good = Good::random(random, format);
-        for place in 0..format.user_bits() {
-            let mut call = good.clone();
-            call.block[place] = [2, 3, 128, 254, 255][random.below(5)];
-            for b in [good.b, 4096, u64::MAX] {
-                let call = Good { b, ..call.clone() };
-                refuse(random, &call, [0, n - 1, n, n + 9][place % 4], 2);
-            }
-        }
+        let good = Given::random(random, format);
+        faults::bytes_that_are_no_bits(random, &good, &mut refused);
     });
 }
 
 #[test]
 fn lengths_that_fit_no_format() {
     let mut random = Random::new(129);
-    let good = Good::random(&mut random, Format::Long);
-    for block in other_lengths(&mut random, [210, 830]) {
-        for (b, room) in [(good.b, 1100), (4096, 1023), (u64::MAX, 0)] {
-            let block = block.clone();
-            let esb = good.esb;
-            refuse(&mut random, &Good { block, b, esb }, room, 1);
-        }
-    }
+    let good = Given::random(&mut random, Format::Long);
+    faults::lengths_that_fit_no_format(&mut random, &good, &mut refused);
 }

@@ -1,4 +1,4 @@
-//! The six programs against the second program, with the same arguments and on
+//! The seven programs against the second program, with the same arguments and on
 //! the same standard input: all that they write, to standard output and to
 //! standard error, is the same. Both are built before the tests run.
 
@@ -10,6 +10,7 @@ use second::bad_words::{bad_telegrams, every_word, BadTelegram};
 use second::bits::{of_text, text};
 use second::encode_skipping;
 use second::format::{Format, FORMATS};
+use second::made::{with_few_pairs, A_HUNDRED, ONE_MORE};
 use second::random::Random;
 use second::telegram::cut;
 use second::words::Kind;
@@ -172,12 +173,12 @@ fn faults_of_long_texts() {
 
 #[test]
 fn a_read_that_fails() {
-    for Program { word: kind, .. } in PROGRAMS {
+    for program in PROGRAMS {
         let folder = || Stdio::from(File::open(repository()).expect("a folder"));
         assert_eq!(
-            agreed_from(kind, folder, b""),
+            agreed_from(program.word, folder, b""),
             Written {
-                output: format!("balise {kind} 1\nbad\n"),
+                output: program.heading() + "bad\n",
                 error: String::from("balise: the input cannot be read\n"),
             }
         );
@@ -531,4 +532,57 @@ fn read_and_made_again() {
     }
     println!("{again} telegrams made again by the programs");
     assert!(again > 30);
+}
+
+/// The pairs in a list of the program, and its last line.
+fn listed(block: &[u8]) -> (usize, String) {
+    let written = agreed("pairs", text(block).as_bytes());
+    let (pairs, last) = written
+        .trim_end_matches('\n')
+        .rsplit_once('\n')
+        .unwrap_or(("", written.trim_end_matches('\n')));
+    (pairs.lines().count(), last.to_string())
+}
+
+/// Lists with more than a hundred pairs, exactly a hundred, fewer and none (document
+/// 02, No. 9). The first pair is that of encode.
+#[test]
+fn lists_of_pairs() {
+    let mut random = Random::new(40);
+    for format in FORMATS {
+        for _ in 0..4 {
+            let block = random.bits(format.user_bits());
+            assert_eq!(listed(&block), (100, String::from("more")));
+            let encoded = agreed("encode", text(&block).as_bytes());
+            let words: Vec<&str> = encoded.split_whitespace().collect();
+            let first = format!("{} {}\n", words[7], words[9]);
+            assert!(agreed("pairs", text(&block).as_bytes()).starts_with(&first));
+        }
+    }
+    let few = |place| with_few_pairs(place).expect("a block");
+    assert_eq!(listed(&few(ONE_MORE)), (100, String::from("more")));
+    assert_eq!(listed(&few(A_HUNDRED)), (100, String::from("end")));
+    assert_eq!(listed(&block_without_a_pair()), (0, String::from("end")));
+    for place in [808, 763, 686] {
+        let (pairs, last) = listed(&few(place));
+        assert!((1..100).contains(&pairs) && last == "end");
+    }
+}
+
+/// A block of a wrong length is bad, and its length is said; so is no text at all.
+#[test]
+fn blocks_that_cannot_be_listed() {
+    let mut random = Random::new(41);
+    for length in (0..830).filter(|length| length % 37 == 0 || (205..215).contains(length)) {
+        if length == 210 {
+            continue;
+        }
+        let input = text(&random.bits(length));
+        let why = format!("balise: a block has 830 or 210 bits, and this has {length}\n");
+        for end in ["", "\n", "\r\n\r\n"] {
+            let input = format!("{input}{end}");
+            assert_eq!(complaint("pairs", input.as_bytes()), why);
+            assert_eq!(agreed("pairs", input.as_bytes()), "bad\n");
+        }
+    }
 }

@@ -43,6 +43,7 @@ fn header_and_wrapper_name_what_the_library_answers() {
         // where the lowest is not given first, the header says in which order
         let order: Vec<u8> = match call {
             "make" => vec![1, 2, 27, 3, 9],
+            "next" => vec![1, 2, 27, 3],
             _ => numbers.into_iter().collect(),
         };
         assert_eq!(list, order, "{call}");

@@ -27,7 +27,7 @@ fn format_of(block: &[u8]) -> Result<Format, Refusal> {
 
 /// The refusals, tested in the order 1, 2, 27, 3, then the search from a pair on.
 /// Where it finds none, the output is kept.
-fn answer(
+pub fn next_by(
     block: &[u8],
     b: u64,
     esb: u64,
@@ -51,7 +51,7 @@ fn answer(
 /// The next proper pair at or after B and esb, its telegram into the output, or
 /// none: each pair formed and tested.
 pub fn next(block: &[u8], b: u64, esb: u64, output: &mut [u8]) -> Result<Option<Next>, Refusal> {
-    answer(block, b, esb, output, |format, from| {
+    next_by(block, b, esb, output, |format, from| {
         pairs_from(block, format, Course::Ring, from).next()
     })
 }
@@ -63,7 +63,7 @@ pub fn next_skipping(
     esb: u64,
     output: &mut [u8],
 ) -> Result<Option<Next>, Refusal> {
-    answer(block, b, esb, output, |format, from| {
+    next_by(block, b, esb, output, |format, from| {
         pairs_from_skipping(block, format, Course::Ring, from).next()
     })
 }
