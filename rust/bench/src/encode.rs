@@ -2,7 +2,7 @@
 //! and what each measure brings to the latter.
 
 use crate::quick::{self, ALL, FIRST_WORD, NUMBERS, RUNS, UPDATES};
-use crate::{median, microseconds};
+use crate::{median, microseconds, shown};
 use second::appendices::block_without_a_pair;
 use second::encode_skipping;
 use second::format::{Format, FORMATS};
@@ -118,12 +118,6 @@ fn four(blocks: &Blocks, often: &Often) -> [Vec<f64>; 4] {
         blocks.times([straightforward, plain_engine], often.slow, least);
     let [ours, for_speed] = blocks.times([ours, for_speed::<ALL>], often.quick, median);
     [straightforward, plain_engine, ours, for_speed]
-}
-
-/// A time, with a digit after the point where it is short.
-fn shown(time: f64) -> String {
-    let digits = if time < 1000.0 { 1 } else { 0 };
-    format!("{time:.digits$}")
 }
 
 fn row(name: &str, [straightforward, plain_engine, ours, for_speed]: [f64; 4]) {

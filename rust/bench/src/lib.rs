@@ -4,6 +4,7 @@
 mod calls;
 mod captures;
 mod check;
+mod choices;
 mod encode;
 mod layer_rows;
 pub mod look_up;
@@ -45,6 +46,12 @@ fn microseconds(work: impl FnOnce()) -> f64 {
 fn median(mut times: Vec<f64>) -> f64 {
     times.sort_by(f64::total_cmp);
     times[times.len() / 2]
+}
+
+/// A time, with a digit after the point where it is short.
+fn shown(time: f64) -> String {
+    let digits = if time < 1000.0 { 1 } else { 0 };
+    format!("{time:.digits$}")
 }
 
 /// Prints the head of a table of ratios.
@@ -108,6 +115,7 @@ pub fn figures(log: Option<&str>) {
     println!();
     look_up::look_up();
     encode::encode();
+    choices::choices();
     calls::calls();
     captures::captures();
     if let Some(log) = log {

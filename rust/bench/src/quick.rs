@@ -1,5 +1,6 @@
-//! Encoding in plain Rust with the algorithm of the proved engine, written for speed.
-//! Each of its measures can be left out, to see what it brings.
+//! Encoding, and the next proper pair, in plain Rust with the algorithm of the proved
+//! engine, written for speed. Each of its measures can be left out, to see what it
+//! brings.
 
 use crate::plain::{
     conditions, is_word, remainder, remainder_from, runs_within, shape, with_sum, write_number, FG,
@@ -9,7 +10,7 @@ use second::conditions::off_step_limit;
 use second::encode::PAIRS;
 use second::format::{Format, CHECK_BITS};
 use second::telegram::{B_VALUES, ESB_VALUES};
-use second::{refusal, Encoded, Refusal};
+use second::{refusal, Encoded, Next, Refusal};
 use std::hint::black_box;
 
 /// A measure: a B is dropped whose own word, b109 to b99, is not in the table.
@@ -141,18 +142,19 @@ fn runs_of_shaped_data_within(format: Format, telegram: &Telegram) -> bool {
     })
 }
 
-/// The first esb with which the telegram of this shaped data and B is proper; it is
-/// then in the telegram's room.
-fn first_esb<const MEASURES: u8, const G: u128, const FG: u128>(
+/// The first esb, from one on, with which the telegram of this shaped data and B is
+/// proper; it is then in the telegram's room.
+fn esb_from<const MEASURES: u8, const G: u128, const FG: u128>(
     format: Format,
     b: u32,
+    from: u32,
     telegram: &mut Telegram,
 ) -> Option<u32> {
     let valid = &*VALID;
     let changes = const { &changes(FG) };
     let (at, n) = (format.shaped_bits(), format.telegram_bits());
-    let mut last = divided::<MEASURES, G, FG>(&telegram[..at], b, 0);
-    for esb in 0..u32::from(ESB_VALUES) {
+    let mut last = divided::<MEASURES, G, FG>(&telegram[..at], b, from);
+    for esb in from..u32::from(ESB_VALUES) {
         if MEASURES & UPDATES == 0 {
             last = divided::<MEASURES, G, FG>(&telegram[..at], b, esb);
         }
@@ -180,14 +182,19 @@ fn first_esb<const MEASURES: u8, const G: u128, const FG: u128>(
     None
 }
 
-/// The first pair whose telegram is proper; it is then in the telegram's room.
-fn first_pair<const MEASURES: u8, const G: u128, const FG: u128>(
+/// A pair: B and esb.
+type Pair = (u32, u32);
+
+/// The first pair at or after one whose telegram is proper; it is then in the
+/// telegram's room.
+fn pair_from<const MEASURES: u8, const G: u128, const FG: u128>(
     format: Format,
     block: &[u8],
+    start: Pair,
     telegram: &mut Telegram,
-) -> Option<(u32, u32)> {
+) -> Option<Pair> {
     let summed = with_sum(block);
-    for b in 0..u32::from(B_VALUES) {
+    for b in start.0..u32::from(B_VALUES) {
         if MEASURES & FIRST_WORD != 0 && !VALID[(256 + b / 16) as usize] {
             continue;
         }
@@ -199,7 +206,8 @@ fn first_pair<const MEASURES: u8, const G: u128, const FG: u128>(
         if MEASURES & RUNS != 0 && !runs_of_shaped_data_within(format, telegram) {
             continue;
         }
-        if let Some(esb) = first_esb::<MEASURES, G, FG>(format, b, telegram) {
+        let from = if b == start.0 { start.1 } else { 0 };
+        if let Some(esb) = esb_from::<MEASURES, G, FG>(format, b, from, telegram) {
             return Some((b, esb));
         }
     }
@@ -222,18 +230,60 @@ fn encode_as<const MEASURES: u8, const G: u128, const FG: u128>(
     if block.iter().any(|&byte| byte > 1) {
         return Err(refusal::NOT_A_BIT);
     }
-    let output = output
-        .get_mut(..format.telegram_bits())
-        .ok_or(refusal::OUTPUT)?;
-    let mut telegram = [0; Format::Long.telegram_bits()];
     let none = Refusal::NoPair { tried: PAIRS };
-    let pair = first_pair::<MEASURES, G, FG>(format, block, &mut telegram);
+    let pair = write_from::<MEASURES, G, FG>(format, block, (0, 0), output)?;
     let (b, esb) = pair.ok_or(none)?;
-    output.copy_from_slice(&telegram[..format.telegram_bits()]);
     Ok(Encoded {
         format,
         b: b as u16,
         esb: esb as u16,
         count: u32::from(ESB_VALUES) * b + esb + 1,
     })
+}
+
+/// The first pair at or after one whose telegram is proper, the telegram into the
+/// output; or refusal 3.
+fn write_from<const MEASURES: u8, const G: u128, const FG: u128>(
+    format: Format,
+    block: &[u8],
+    start: Pair,
+    output: &mut [u8],
+) -> Result<Option<Pair>, Refusal> {
+    let n = format.telegram_bits();
+    let output = output.get_mut(..n).ok_or(refusal::OUTPUT)?;
+    let mut telegram = [0; Format::Long.telegram_bits()];
+    let pair = pair_from::<MEASURES, G, FG>(format, block, start, &mut telegram);
+    if pair.is_some() {
+        output.copy_from_slice(&telegram[..n]);
+    }
+    Ok(pair)
+}
+
+/// The next proper pair, as the second program's `next`, with all measures.
+pub fn next(block: &[u8], b: u64, esb: u64, output: &mut [u8]) -> Result<Option<Next>, Refusal> {
+    match Format::of_block(block.len()).ok_or(refusal::LENGTH)? {
+        Format::Long => next_as::<G, FG>(Format::Long, block, b, esb, output),
+        Format::Short => next_as::<SHORT_G, SHORT_FG>(Format::Short, block, b, esb, output),
+    }
+}
+
+fn next_as<const G: u128, const FG: u128>(
+    format: Format,
+    block: &[u8],
+    b: u64,
+    esb: u64,
+    output: &mut [u8],
+) -> Result<Option<Next>, Refusal> {
+    if block.iter().any(|&byte| byte > 1) {
+        return Err(refusal::NOT_A_BIT);
+    }
+    if b >= u64::from(B_VALUES) || esb >= u64::from(ESB_VALUES) {
+        return Err(refusal::PAIR_TOO_LARGE);
+    }
+    let pair = write_from::<ALL, G, FG>(format, block, (b as u32, esb as u32), output)?;
+    Ok(pair.map(|(b, esb)| Next {
+        format,
+        b: b as u16,
+        esb: esb as u16,
+    }))
 }

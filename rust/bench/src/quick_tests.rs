@@ -1,13 +1,13 @@
-//! Plain Rust's encoder, with every combination of its measures, against the second
-//! program.
+//! Plain Rust's encoder, with every combination of its measures, and its search for the
+//! next pair, against the second program.
 
-use crate::quick::{encode, ALL, UPDATES};
+use crate::quick::{encode, next, ALL, UPDATES};
 use compare::patterns;
 use second::appendices::{appendix_b, block_without_a_pair};
 use second::format::{Format, FORMATS};
 use second::random::Random;
 use second::read::user_bits_of;
-use second::{encode_skipping, Encoded, Refusal};
+use second::{encode_skipping, next_skipping, pairs_skipping, Encoded, Refusal};
 
 /// An encoder.
 type Encoder = fn(&[u8], &mut [u8]) -> Result<Encoded, Refusal>;
@@ -97,6 +97,48 @@ fn refusals_before_the_search() {
         ] {
             let answer = compare(&COMBINATIONS, block, room);
             assert_eq!(answer, Err(Refusal::Number(number)));
+        }
+    }
+}
+
+/// Compares the next pair at or after B and esb, and every byte of an output of this
+/// length: the refusal, if there is one.
+fn compare_next(block: &[u8], b: u64, esb: u64, room: usize) -> Option<Refusal> {
+    let (mut ours, mut expected) = (vec![9; room], vec![9; room]);
+    let answer = next(block, b, esb, &mut ours);
+    assert_eq!(answer, next_skipping(block, b, esb, &mut expected));
+    assert_eq!(ours, expected);
+    answer.err()
+}
+
+/// From random starts on, from pairs on and from just after them, and the refusals.
+#[test]
+fn next_pairs() {
+    let mut random = Random::new(10);
+    for format in FORMATS {
+        let (m, n) = (format.user_bits(), format.telegram_bits());
+        let block = random.bits(m);
+        for pair in pairs_skipping(&block).expect("a block").step_by(10) {
+            let (b, esb) = (u64::from(pair.b), u64::from(pair.esb));
+            assert_eq!(compare_next(&block, b, esb, n), None);
+            assert_eq!(compare_next(&block, b, esb + 1, n + 7), None);
+            let (b, esb) = (random.below(4096) as u64, random.below(1024) as u64);
+            assert_eq!(compare_next(&block, b, esb, n + 7), None);
+        }
+        assert_eq!(compare_next(&block, 4095, 1023, n), None);
+        let mut no_bit = block.clone();
+        no_bit[m - 1] = 2;
+        for (block, b, esb, room, number) in [
+            (&no_bit[1..], 4096, 0, 0, 1),
+            (&no_bit, 4096, 0, n, 2),
+            (&block, 4096, 0, n - 1, 27),
+            (&block, 0, 1024, n, 27),
+            (&block, 1 << 32, 0, n, 27),
+            (&block, 0, u64::MAX, n, 27),
+            (&block, 0, 0, n - 1, 3),
+        ] {
+            let refused = Some(Refusal::Number(number));
+            assert_eq!(compare_next(block, b, esb, room), refused);
         }
     }
 }
