@@ -25,8 +25,10 @@ const TELEGRAMS: usize = 12;
 const LENGTH: usize = 2200;
 const CAPTURE: usize = 7600;
 
-/// Of so many blocks that would be encoded, or searched for the next pair, one is.
-const SEARCHED: usize = 10;
+/// Of so many blocks that would be encoded one is, and of so many for which the next
+/// pair would be searched.
+const ENCODED: usize = 10;
+const LISTED: usize = 3;
 
 /// Of so many blocks that are encoded, one is by the plain engine too.
 const BY_BOTH: usize = 10;
@@ -279,14 +281,15 @@ impl Inputs {
     }
 
     /// The room for the telegram of a block, and whether a call would search for it, as
-    /// it would where its numbers are good too. Of most such blocks a byte is changed to
-    /// one that is no bit, or the room is made too short, so that it does not.
-    fn seldom_searched(&mut self, block: &mut [u8], numbers: bool) -> (usize, bool) {
+    /// it would where its numbers are good too. Of all such blocks but one in so many a
+    /// byte is changed to one that is no bit, or the room is made too short, so that it
+    /// does not.
+    fn room_to_search(&mut self, block: &mut [u8], numbers: bool, one_in: usize) -> (usize, bool) {
         let format = Format::of_block(block.len());
         let needed = format.unwrap_or(Format::Long).telegram_bits();
         let room = self.room(needed);
         let searched = format.is_some() && all_bits(block) && numbers && room >= needed;
-        if !searched || self.one_in(SEARCHED) {
+        if !searched || self.one_in(one_in) {
             return (room, searched);
         }
         if self.one_in(2) {
@@ -322,7 +325,7 @@ fn encode_any_bytes() {
     let mut plain = 0;
     for _ in 0..share(14) {
         let mut block = inputs.list([830, 210], true);
-        let (room, searched) = inputs.seldom_searched(&mut block, true);
+        let (room, searched) = inputs.room_to_search(&mut block, true, ENCODED);
         let (buffer, at) = moved(&mut inputs.random, &block);
         let encode = if searched && !inputs.one_in(BY_BOTH) {
             encode
@@ -364,7 +367,7 @@ fn next_any_bytes() {
     for _ in 0..share(8) {
         let (mut block, b, esb) = inputs.block_and_pair();
         let numbers = b <= 4095 && esb <= 1023;
-        let (room, _) = inputs.seldom_searched(&mut block, numbers);
+        let (room, _) = inputs.room_to_search(&mut block, numbers, LISTED);
         let (buffer, at) = moved(&mut inputs.random, &block);
         let random = &mut inputs.random;
         let (answer, _) = next(random, next_skipping, &buffer[at..], (b, esb), room);
