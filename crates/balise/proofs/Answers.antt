@@ -46,6 +46,26 @@ use Rattle.captures.proofs.Exact.{searches}
 use Rattle.balise.specs.AsNumber.{packed, encodedSizes, checkedSizes, madeSizes, readSizes, searchSizes, Fits, ReadBack}
 use Rattle.balise.proofs.Fields.{fits-back}
 
+-- ---- answers that are equal
+
+module _ {A : Type 0} (sizes : List ℕ) (values : A → List ℕ) {a b : A} (e : a ≡ b) where
+  pub same-fits : Fits sizes (values a) → Fits sizes (values b)
+  same-fits = subst (λ (x : A). Fits sizes (values x)) e
+
+  pub same-number : packed sizes (values a) ≡ packed sizes (values b)
+  same-number = ap (λ (x : A). packed sizes (values x)) e
+
+-- what a call that writes is to answer, and what it answered and left in the output
+module _ {A : Type 0} (sizes : List ℕ) (values : A → List ℕ) {due : Outcome A} {a : A} {o : List ℕ} (e : due ≡ outcome a o) where
+  pub answer-fits : Fits sizes (values (due .answer)) → Fits sizes (values a)
+  answer-fits = same-fits sizes values (ap (λ (x : Outcome A). x .answer) e)
+
+  pub answer-packed : {n : ℕ} → n ≡ packed sizes (values a) → (n ≡ packed sizes (values (due .answer))) × (o ≡ due .output)
+  answer-packed f = (
+    f ∙ sym (same-number sizes values (ap (λ (x : Outcome A). x .answer) e)),
+    sym (ap (λ (x : Outcome A). x .output) e),
+  )
+
 -- ---- single values
 
 format-fits : (format : Format) → formatNumber format < 2
@@ -130,18 +150,6 @@ module _ (asked : Asked) (w out : List ℕ) where
       go (Read reading) e = reading-fits reading e 0 (omega arith)
       go (NotRead refusal) e =
           refusal-fits refusal (formatOfWindow w) (λ bad is. named-below asked w out bad (e ∙ ap (λ (r : Refusal). NotRead r) is))
-
-  -- what a call answered, and what it left in the output
-  module _ (a : ReadAnswer) (o : List ℕ) (e : readBy asked w out ≡ outcome a o) where
-    pub answer-fits : Fits readSizes (readValues a)
-    answer-fits = subst (λ (x : Outcome ReadAnswer). Fits readSizes (readValues (x .answer))) e read-fits
-
-    pub answer-packed : (n : ℕ) → n ≡ packed readSizes (readValues a)
-        → (n ≡ packed readSizes (readValues (readBy asked w out .answer))) × (o ≡ readBy asked w out .output)
-    answer-packed n f = (
-      f ∙ ap (λ (x : Outcome ReadAnswer). packed readSizes (readValues (x .answer))) (sym e),
-      ap (λ (x : Outcome ReadAnswer). x .output) (sym e),
-    )
 
   pub read-back : ReadBack readSizes (readValues (readBy asked w out .answer))
   read-back = fits-back readSizes (readValues (readBy asked w out .answer)) read-fits
