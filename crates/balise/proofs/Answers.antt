@@ -31,6 +31,10 @@ use Rattle.maker.specs.declared.Made.{Made}
 use Rattle.maker.specs.declared.Made.the-variants.{Telegram, Refused as NotMade}
 use Rattle.maker.specs.Making.{madeValues, formatOf as formatOfBlock, makeOf}
 use Rattle.maker.proofs.Exact.{make-answers}
+use Rattle.lister.specs.declared.Listed.{Listed}
+use Rattle.lister.specs.declared.Listed.the-variants.{Pair as NextPair, NoMore, Refused as NotListed}
+use Rattle.lister.specs.Listing.{listedValues, nextOf}
+use Rattle.lister.proofs.Exact.{next-pair-small}
 use Rattle.reader.specs.declared.Asked.{Asked}
 use Rattle.reader.specs.declared.Asked.the-variants.{Proper}
 use Rattle.reader.specs.declared.Reading.{Reading}
@@ -43,7 +47,7 @@ use Rattle.captures.specs.declared.Capture.{Capture}
 use Rattle.captures.specs.declared.Capture.the-variants.{Found, Refused as NotFound}
 use Rattle.captures.specs.Captures.{captureValues, windowAt, searchOf}
 use Rattle.captures.proofs.Exact.{searches}
-use Rattle.balise.specs.AsNumber.{packed, encodedSizes, checkedSizes, madeSizes, readSizes, searchSizes, Fits, ReadBack}
+use Rattle.balise.specs.AsNumber.{packed, encodedSizes, checkedSizes, madeSizes, listedSizes, readSizes, searchSizes, Fits, ReadBack}
 use Rattle.balise.proofs.Fields.{fits-back}
 
 -- ---- answers that are equal
@@ -134,6 +138,22 @@ module _ (u : List ℕ) (B esb : ℕ) (out : List ℕ) where
 
   pub make-back : ReadBack madeSizes (madeValues (makeOf u B esb out .answer))
   make-back = fits-back madeSizes (madeValues (makeOf u B esb out .answer)) make-fits
+
+-- ---- next
+
+module _ (u : List ℕ) (B esb : ℕ) (out : List ℕ) where
+  pub next-fits : Fits listedSizes (listedValues (nextOf u B esb out .answer))
+  next-fits = go (nextOf u B esb out .answer) refl
+    where
+      go : (a : Listed) → nextOf u B esb out .answer ≡ a → Fits listedSizes (listedValues a)
+      go (NextPair format C e) is =
+          let small = next-pair-small u B esb out format C e is in
+          search (arith, format-fits format, small .0, small .1)
+      go NoMore is = search arith
+      go (NotListed refusal) is = search (arith, number-fits refusal)
+
+  pub next-back : ReadBack listedSizes (listedValues (nextOf u B esb out .answer))
+  next-back = fits-back listedSizes (listedValues (nextOf u B esb out .answer)) next-fits
 
 -- ---- read
 
