@@ -72,8 +72,7 @@ fn list_pair(block: &[u8], answer: Listed) -> Listed {
             print_pair(scrambling, shaping);
             pair_after(block, scrambling, shaping)
         }
-        Listed::NoMore => Listed::NoMore,
-        Listed::Refused(refusal) => Listed::Refused(refusal),
+        _ => answer,
     }
 }
 
