@@ -1,9 +1,9 @@
 -- The listing of all proper pairs of a block (document 02, No. 9): "Starting at pair 0, 0 and going on just after each answer, until no more
 -- is said or 4095, 1023 was the answer, gives every proper pair once, in order, and no other."
 -- Assumes nothing.
-use Prim.Native.Nat.{ℕ, zero, suc, _/_, _%_, _≤_}
+use Prim.Native.Nat.{ℕ, zero, suc, _+_, _-_, _*_, _/_, _%_, _≤_, _<_}
 use mathlib.Core.Path.{_≡_}
-use mathlib.Core.Bool.{Bool, cond}
+use mathlib.Core.Bool.{cond}
 use mathlib.Core.List.{List, [], _∷_}
 use Rattle.formats.specs.declared.format.Format.{Format}
 use Rattle.formats.specs.Numbers.{numbersOf}
@@ -57,3 +57,6 @@ properPairs format u = properOf format u (pairsFrom 0 pairCount)
 -- as many calls as there are pairs are enough, and more change nothing
 pub record ListsAll (format : Format) (u out : List ℕ) : Type 0 where
   pub all : (calls : ℕ) → pairCount ≤ calls → listing calls u out (From 0 0) ≡ properPairs format u
+  -- and a listing that starts at B, esb gives those of the pairs from there on
+  pub onward : (B esb : ℕ) → B < 4096 → esb < 1024 → (calls : ℕ) → pairCount ≤ calls
+      → let p = 1024 * B + esb in listing calls u out (From B esb) ≡ properOf format u (pairsFrom p (pairCount - p))

@@ -1,6 +1,6 @@
 -- What asking for the next proper pair means (document 02, No. 9; the request, demand 1).
 -- Assumes nothing.
-use Prim.Native.Nat.{ℕ, _+_, _*_, _≤_, _<_}
+use Prim.Native.Nat.{ℕ, _+_, _*_}
 use mathlib.Core.Path.{_≡_}
 use mathlib.Core.List.{List, _++_}
 use mathlib.Core.Logic.{_↔_, _⊎_}
@@ -14,7 +14,8 @@ use Rattle.refusals.specs.Outcome.{Outcome, outcome, FrontWritten}
 use Rattle.telegrams.specs.Telegram.{telegramOf}
 use Rattle.encoder.specs.declared.Encoded.{Encoded}
 use Rattle.encoder.specs.declared.Encoded.the-variants as encoded
-use Rattle.encoder.specs.FirstPair.{ProperPair}
+use Rattle.encoder.specs.Encoding.{encodeOf}
+use Rattle.encoder.specs.FirstPair.{ProperFrom, NoneProperFrom}
 use Rattle.maker.specs.Making.{formatOf}
 use Rattle.maker.specs.PairTests.{pairTable}
 use Rattle.lister.specs.declared.Listed.{Listed}
@@ -33,31 +34,19 @@ pub record NextAnswers (u : List ℕ) (B esb : ℕ) (out : List ℕ) : Type 0 wh
   pub writes : (format : Format) (C e : ℕ) → nextOf u B esb out .answer ≡ Pair format C e
       → FrontWritten (numbersOf format .n) out (nextOf u B esb out .output)
 
--- the pair C, e stands at or after B, esb, its telegram is proper, and that of no pair between them
-pub record NextProper (format : Format) (u : List ℕ) (B esb C e : ℕ) : Type 0 where
-  pub scrambling : C < 4096
-  pub shaping : e < 1024
-  pub from : 1024 * B + esb ≤ 1024 * C + e
-  pub properPair : ProperPair format u C e
-  pub noneBetween : (D d : ℕ) → d < 1024 → 1024 * B + esb ≤ 1024 * D + d → 1024 * D + d < 1024 * C + e → ProperPair format u D d → ⊥
-
--- no pair at or after B, esb has a proper telegram
-abbrev pub NoneFrom : Format → List ℕ → ℕ → ℕ → Type 0
-NoneFrom format u B esb = (C e : ℕ) → C < 4096 → e < 1024 → 1024 * B + esb ≤ 1024 * C + e → ProperPair format u C e → ⊥
-
 -- the pair, and its telegram over the front of the output
 abbrev pub wroteNext : Format → List ℕ → List ℕ → ℕ → ℕ → Outcome Listed
 wroteNext format u out C e = outcome (Pair format C e) (telegramOf (numbersOf format) u C e ++ drop (numbersOf format .n) out)
 
 -- "it returns the next pair at or after it in the same order, with its telegram, or says there are no more"
 pub record NextExactly (format : Format) (u : List ℕ) (B esb : ℕ) (out : List ℕ) : Type 0 where
-  -- it answers with a pair, and writes that pair's telegram, exactly when the pair is the next that is proper
-  pub givesNext : (C e : ℕ) → (nextOf u B esb out ≡ wroteNext format u out C e) ↔ NextProper format u B esb C e
+  -- it answers with a pair, and writes that pair's telegram, exactly when the pair is the first proper one at or after B, esb
+  pub givesNext : (C e : ℕ) → (nextOf u B esb out ≡ wroteNext format u out C e) ↔ ProperFrom format u (1024 * B + esb) C e
   -- it says that there are no more exactly when there is none
-  pub saysNoMore : (nextOf u B esb out ≡ outcome NoMore out) ↔ NoneFrom format u B esb
+  pub saysNoMore : (nextOf u B esb out ≡ outcome NoMore out) ↔ NoneProperFrom format u (1024 * B + esb)
   -- and it does one of the two
-  pub nextOrNone : ((C : ℕ) × (e : ℕ) × NextProper format u B esb C e × (nextOf u B esb out ≡ wroteNext format u out C e))
-      ⊎ (NoneFrom format u B esb × (nextOf u B esb out ≡ outcome NoMore out))
+  pub nextOrNone : ((C : ℕ) × (e : ℕ) × ProperFrom format u (1024 * B + esb) C e × (nextOf u B esb out ≡ wroteNext format u out C e))
+      ⊎ (NoneProperFrom format u (1024 * B + esb) × (nextOf u B esb out ≡ outcome NoMore out))
 
 -- ---- from 0, 0 on
 
@@ -66,3 +55,7 @@ abbrev pub asEncoded : Listed → Encoded
 asEncoded (Pair format B esb) = encoded.Pair format B esb (1024 * B + esb + 1)
 asEncoded NoMore = encoded.Refused NoPair
 asEncoded (Refused r) = encoded.Refused r
+
+-- the first of all is encode's: from 0, 0 on the two give the same answer, and leave the same bytes
+abbrev pub FirstIsEncode : List ℕ → List ℕ → Type 0
+FirstIsEncode u out = let first = nextOf u 0 0 out in encodeOf u out ≡ outcome (asEncoded (first .answer)) (first .output)
