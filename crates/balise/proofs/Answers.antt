@@ -31,6 +31,10 @@ use Rattle.maker.specs.declared.Made.{Made}
 use Rattle.maker.specs.declared.Made.the-variants.{Telegram, Refused as NotMade}
 use Rattle.maker.specs.Making.{madeValues, formatOf as formatOfBlock, makeOf}
 use Rattle.maker.proofs.Exact.{make-answers}
+use Rattle.lister.specs.declared.Listed.{Listed}
+use Rattle.lister.specs.declared.Listed.the-variants.{Pair as NextPair, NoMore, Refused as NotListed}
+use Rattle.lister.specs.Listing.{listedValues, nextOf}
+use Rattle.lister.proofs.Exact.{next-pair-small}
 use Rattle.reader.specs.declared.Asked.{Asked}
 use Rattle.reader.specs.declared.Asked.the-variants.{Proper}
 use Rattle.reader.specs.declared.Reading.{Reading}
@@ -43,8 +47,28 @@ use Rattle.captures.specs.declared.Capture.{Capture}
 use Rattle.captures.specs.declared.Capture.the-variants.{Found, Refused as NotFound}
 use Rattle.captures.specs.Captures.{captureValues, windowAt, searchOf}
 use Rattle.captures.proofs.Exact.{searches}
-use Rattle.balise.specs.AsNumber.{packed, encodedSizes, checkedSizes, madeSizes, readSizes, searchSizes, Fits, ReadBack}
+use Rattle.balise.specs.AsNumber.{packed, encodedSizes, checkedSizes, madeSizes, listedSizes, readSizes, searchSizes, Fits, ReadBack}
 use Rattle.balise.proofs.Fields.{fits-back}
+
+-- ---- answers that are equal
+
+module _ {A : Type 0} (sizes : List ℕ) (values : A → List ℕ) {a b : A} (e : a ≡ b) where
+  pub same-fits : Fits sizes (values a) → Fits sizes (values b)
+  same-fits = subst (λ (x : A). Fits sizes (values x)) e
+
+  pub same-number : packed sizes (values a) ≡ packed sizes (values b)
+  same-number = ap (λ (x : A). packed sizes (values x)) e
+
+-- what a call that writes is to answer, and what it answered and left in the output
+module _ {A : Type 0} (sizes : List ℕ) (values : A → List ℕ) {due : Outcome A} {a : A} {o : List ℕ} (e : due ≡ outcome a o) where
+  pub answer-fits : Fits sizes (values (due .answer)) → Fits sizes (values a)
+  answer-fits = same-fits sizes values (ap (λ (x : Outcome A). x .answer) e)
+
+  pub answer-packed : {n : ℕ} → n ≡ packed sizes (values a) → (n ≡ packed sizes (values (due .answer))) × (o ≡ due .output)
+  answer-packed f = (
+    f ∙ sym (same-number sizes values (ap (λ (x : Outcome A). x .answer) e)),
+    sym (ap (λ (x : Outcome A). x .output) e),
+  )
 
 -- ---- single values
 
@@ -115,6 +139,22 @@ module _ (u : List ℕ) (B esb : ℕ) (out : List ℕ) where
   pub make-back : ReadBack madeSizes (madeValues (makeOf u B esb out .answer))
   make-back = fits-back madeSizes (madeValues (makeOf u B esb out .answer)) make-fits
 
+-- ---- next
+
+module _ (u : List ℕ) (B esb : ℕ) (out : List ℕ) where
+  pub next-fits : Fits listedSizes (listedValues (nextOf u B esb out .answer))
+  next-fits = go (nextOf u B esb out .answer) refl
+    where
+      go : (a : Listed) → nextOf u B esb out .answer ≡ a → Fits listedSizes (listedValues a)
+      go (NextPair format C e) is =
+          let small = next-pair-small u B esb out format C e is in
+          search (arith, format-fits format, small .0, small .1)
+      go NoMore is = search arith
+      go (NotListed refusal) is = search (arith, number-fits refusal)
+
+  pub next-back : ReadBack listedSizes (listedValues (nextOf u B esb out .answer))
+  next-back = fits-back listedSizes (listedValues (nextOf u B esb out .answer)) next-fits
+
 -- ---- read
 
 module _ (asked : Asked) (w out : List ℕ) where
@@ -130,18 +170,6 @@ module _ (asked : Asked) (w out : List ℕ) where
       go (Read reading) e = reading-fits reading e 0 (omega arith)
       go (NotRead refusal) e =
           refusal-fits refusal (formatOfWindow w) (λ bad is. named-below asked w out bad (e ∙ ap (λ (r : Refusal). NotRead r) is))
-
-  -- what a call answered, and what it left in the output
-  module _ (a : ReadAnswer) (o : List ℕ) (e : readBy asked w out ≡ outcome a o) where
-    pub answer-fits : Fits readSizes (readValues a)
-    answer-fits = subst (λ (x : Outcome ReadAnswer). Fits readSizes (readValues (x .answer))) e read-fits
-
-    pub answer-packed : (n : ℕ) → n ≡ packed readSizes (readValues a)
-        → (n ≡ packed readSizes (readValues (readBy asked w out .answer))) × (o ≡ readBy asked w out .output)
-    answer-packed n f = (
-      f ∙ ap (λ (x : Outcome ReadAnswer). packed readSizes (readValues (x .answer))) (sym e),
-      ap (λ (x : Outcome ReadAnswer). x .output) (sym e),
-    )
 
   pub read-back : ReadBack readSizes (readValues (readBy asked w out .answer))
   read-back = fits-back readSizes (readValues (readBy asked w out .answer)) read-fits

@@ -26,6 +26,10 @@ checkedSizes = 256 ∷ 2 ∷ 2 ∷ 4096 ∷ 1024 ∷ []
 abbrev pub madeSizes : List ℕ
 madeSizes = checkedSizes
 
+-- bits 0 to 7 the number, 8 the format, 9 to 20 B, 21 to 30 esb, 31 whether there are no more
+abbrev pub listedSizes : List ℕ
+listedSizes = 256 ∷ 2 ∷ 4096 ∷ 1024 ∷ 2 ∷ []
+
 -- bits 0 to 7 the number, 8 the format, 9 whether it was flipped, 10 to 21 B, 22 to 31 the turn, 32 to 47 the place, 48 to 57 esb; of
 -- refusal 9 as check's
 abbrev pub readSizes : List ℕ

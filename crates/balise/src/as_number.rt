@@ -5,14 +5,16 @@ ghost use Rattle.refusals.specs.AnswerValues.{formatNumber, flippedNumber, refu
 ghost use Rattle.encoder.specs.Encoding.{encodedValues};
 ghost use Rattle.checker.specs.Checking.{checkedValues};
 ghost use Rattle.maker.specs.Making.{madeValues};
+ghost use Rattle.lister.specs.Listing.{listedValues};
 ghost use Rattle.reader.specs.Reads.{readValues};
 ghost use Rattle.captures.specs.declared.Capture.the-variants.{Found};
 ghost use Rattle.captures.specs.Captures.{captureValues};
-ghost use Rattle.balise.specs.AsNumber.{packed, encodedSizes, checkedSizes, madeSizes, readSizes, searchSizes, Fits};
+ghost use Rattle.balise.specs.AsNumber.{packed, encodedSizes, checkedSizes, madeSizes, listedSizes, readSizes, searchSizes, Fits};
 use captures::Capture;
 use checker::Checked;
 use encoder::Encoded;
 use formats::format::Format;
+use lister::Listed;
 use maker::Made;
 use reader::ReadAnswer;
 use reader::Reading;
@@ -47,7 +49,7 @@ fn refusal_fields(refusal: Refusal) -> u64
     number + 1024 * (words::kind_number(kind) as u64 + 4096 * index)
 }
 
-// The fields of the encoder's answer.
+// The fields of the encoder's answer, and of a listing's: there the highest field is 1 where there are no more.
 fn encoded_fields(number: u8, format: u8, b: u16, esb: u16, tried: u32) -> u64
     ensures { λ r. ⌜ r ≡ packed encodedSizes (number ∷ format ∷ b ∷ esb ∷ tried ∷ []) ⌝ }
 {
@@ -106,6 +108,20 @@ pub fn made(answer: Made) -> u64
     match answer {
         Made::Telegram(format) => 256 * (format_number(format) as u64),
         Made::Refused(refusal) => refusal_fields(refusal),
+    }
+}
+
+pub fn listed(answer: Listed) -> u64
+    ensures { λ r. ⌜ r ≡ packed listedSizes (listedValues answer) ⌝ }
+{
+    match answer {
+        Listed::Pair {
+            format,
+            scrambling,
+            shaping,
+        } => encoded_fields(0, format_number(format), scrambling, shaping, 0),
+        Listed::NoMore => encoded_fields(0, 0, 0, 0, 1),
+        Listed::Refused(refusal) => encoded_fields(refusals::number(refusal), 0, 0, 0, 0),
     }
 }
 

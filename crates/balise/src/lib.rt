@@ -4,9 +4,10 @@ ghost use mathlib.Core.Path.{_≡_};
 ghost use Rattle.encoder.specs.Encoding.{encodedValues, encodeOf};
 ghost use Rattle.checker.specs.Checking.{checkedValues, checkOf};
 ghost use Rattle.maker.specs.Making.{madeValues, makeOf};
+ghost use Rattle.lister.specs.Listing.{listedValues, nextOf};
 ghost use Rattle.reader.specs.Reads.{readValues, readOf, readWellFormedOf};
 ghost use Rattle.captures.specs.Captures.{captureValues, searchOf};
-ghost use Rattle.balise.specs.AsNumber.{packed, encodedSizes, checkedSizes, madeSizes, readSizes, searchSizes};
+ghost use Rattle.balise.specs.AsNumber.{packed, encodedSizes, checkedSizes, madeSizes, listedSizes, readSizes, searchSizes};
 
 mod as_number;
 
@@ -47,6 +48,17 @@ pub extern "C" fn balise_make(block: &[u8], b: u64, esb: u64, output: &mut [u8])
 {
     let answer = maker::make(block, b, esb, output);
     as_number::made(answer)
+}
+
+// The next proper pair of a block at or after b and esb: its telegram over the front of output. No more, and a refusal, keep every byte
+// of output.
+#[no_mangle]
+pub extern "C" fn balise_next(block: &[u8], b: u64, esb: u64, output: &mut [u8]) -> u64
+    ensures answers { λ r. ⌜ r ≡ packed listedSizes (listedValues (nextOf (now (block .entry)) b esb (now (output .entry)) .answer)) ⌝ }
+    ensures writes { λ _. ⌜ now (output .exit) ≡ nextOf (now (block .entry)) b esb (now (output .entry)) .output ⌝ }
+{
+    let answer = lister::next(block, b, esb, output);
+    as_number::listed(answer)
 }
 
 // Reads a window of a proper telegram: its user bits over the front of output. A refusal keeps every byte of output.

@@ -1,64 +1,54 @@
 -- Lent bits and room, encoding gives exactly the first pair in counting order whose telegram is proper, with its count and its telegram over
 -- the front of the output, or refusal 4 exactly when no pair's telegram is proper (the request, demand 2). Assumes nothing.
 use mathlib.Core.Path.{_≡_, refl, sym, ap, subst₂, _∙_}
-use mathlib.Core.Bool.{false}
 use mathlib.Core.List.{List}
 use mathlib.Core.Logic.{_↔_, _⊎_, inl, inr}
 use Prim.Native.Nat.{ℕ, _+_, _*_, _/_, _%_, _<_}
 use native.Mathlib.Omega.{arith}
 use Rattle.bits.specs.Search.{First, found, none}
-use Rattle.bits.proofs.First.{first-found, first-missing, found-first}
-use Rattle.bits.proofs.Tests.{is-true, is-false, holds, fails, clash}
+use Rattle.bits.proofs.Tests.{clash}
 use Rattle.formats.specs.declared.format.Format.{Format}
-use Rattle.formats.specs.Numbers.{numbersOf}
-use Rattle.refusals.specs.Refused.{pairCount}
 use Rattle.refusals.specs.Outcome.{Outcome}
-use Rattle.telegrams.specs.Telegram.{telegramOf}
-use Rattle.conditions.specs.Conditions.{proper}
 use Rattle.encoder.specs.declared.Encoded.{Encoded}
 use Rattle.encoder.specs.declared.Encoded.the-variants.{Pair}
-use Rattle.encoder.specs.Encoding.{telegramAt, passes, firstPair, encodeOf}
+use Rattle.encoder.specs.Encoding.{firstPair, encodeOf}
 use Rattle.encoder.specs.FirstPair.{ProperPair, FirstProper, NoneProper}
 use Rattle.encoder.specs.Encodes.{CleanBlock, wrotePair, foundNone}
-use Rattle.encoder.proofs.Pairs.{pair-proper}
+use Rattle.encoder.proofs.ProperFrom.{found-from, from-found, missing-from}
 use Rattle.encoder.proofs.Steps.{none-refused, pair-given}
 
--- ---- the pairs in counting order
+-- ---- the first pair
 
 module _ (format : Format) (u : List ℕ) where
-  -- a pair that does not pass is not proper
-  not-passing : (B esb : ℕ) → esb < 1024 → passes format u (1024 * B + esb) ≡ false → ProperPair format u B esb → ⊥
-  not-passing B esb h e = fails (proper format (telegramOf (numbersOf format) u B esb)) (sym (pair-proper B esb h format u) ∙ e)
-
   -- the first place that passes is the first proper pair
   found-proper : (p : ℕ) → firstPair format u ≡ found p → FirstProper format u (p / 1024) (p % 1024)
-  unfolding firstPair passes telegramAt
+  unfolding firstPair
   found-proper p e =
-      let f = first-found (passes format u) 0 pairCount p e in
+      let f = found-from format u 0 p e in
       record {
-        scrambling = omega (arith, f .below);
-        shaping = omega arith;
-        properPair = holds (passes format u p) (f .passed);
-        noneBefore = λ C e small before. not-passing C e small (f .earlier (1024 * C + e) (omega arith) (omega arith));
+        scrambling = f .scrambling;
+        shaping = f .shaping;
+        properPair = f .properPair;
+        noneBefore = λ C e small before. f .noneBetween C e small (omega arith) before;
       }
 
   -- and the first proper pair is the first place that passes
   proper-found : (B esb : ℕ) → FirstProper format u B esb → firstPair format u ≡ found (1024 * B + esb)
-  unfolding firstPair passes telegramAt
+  unfolding firstPair
   proper-found B esb f =
-      found-first (passes format u) 0 pairCount (1024 * B + esb)
+      from-found format u 0 B esb
       record {
+        scrambling = f .scrambling;
+        shaping = f .shaping;
         from = omega arith;
-        below = omega (arith, f .scrambling, f .shaping);
-        passed = pair-proper B esb (f .shaping) format u ∙ is-true (proper format (telegramOf (numbersOf format) u B esb)) (f .properPair);
-        earlier = λ j from before. is-false (passes format u j) (f .noneBefore (j / 1024) (j % 1024) (omega arith) (omega arith));
+        properPair = f .properPair;
+        noneBetween = λ C e small from before. f .noneBefore C e small before;
       }
 
   -- where none passes none is proper
   missing-proper : firstPair format u ≡ none → NoneProper format u
   unfolding firstPair
-  missing-proper e B esb small below =
-      not-passing B esb below (first-missing (passes format u) 0 pairCount e (1024 * B + esb) (omega arith) (omega arith))
+  missing-proper e B esb small below = missing-from format u 0 e B esb small below (omega arith)
 
   -- where some pair is proper there is a first one
   pub first-of-some : (B esb : ℕ) → B < 4096 → esb < 1024 → ProperPair format u B esb → (C : ℕ) × (e : ℕ) × FirstProper format u C e

@@ -18,10 +18,10 @@ use Rattle.encoder.specs.Encodes.{wrotePair}
 use Rattle.encoder.specs.Searched.{madeProper, pairOf}
 
 module _ (B esb : ℕ) (below : esb < 1024) where
-  pair-scrambling : (1024 * B + esb) / 1024 ≡ B
+  pub pair-scrambling : (1024 * B + esb) / 1024 ≡ B
   pair-scrambling = omega arith
 
-  pair-shaping : (1024 * B + esb) % 1024 ≡ esb
+  pub pair-shaping : (1024 * B + esb) % 1024 ≡ esb
   pair-shaping = omega arith
 
   -- as the search answers it
@@ -29,7 +29,7 @@ module _ (B esb : ℕ) (below : esb < 1024) where
   pair-searched = ap₂ Pair pair-scrambling pair-shaping
 
   module _ (format : Format) (u : List ℕ) where
-    pair-telegram : telegramAt format u (1024 * B + esb) ≡ telegramOf (numbersOf format) u B esb
+    pub pair-telegram : telegramAt format u (1024 * B + esb) ≡ telegramOf (numbersOf format) u B esb
     unfolding telegramAt
     pair-telegram = ap₂ (telegramOf (numbersOf format) u) pair-scrambling pair-shaping
 

@@ -1,5 +1,5 @@
 -- What encoding a block answers, row by row of its table (document 01, "When the bench says no"). Assumes nothing.
-use mathlib.Core.Path.{_≡_, sym, ap, _∙_}
+use mathlib.Core.Path.{_≡_, refl, sym, ap, subst, _∙_}
 use mathlib.Core.Bool.{true, false}
 use mathlib.Core.List.{List}
 use Prim.Native.Nat.{ℕ, _+_, _*_, _/_, _%_, _≤_, _<_}
@@ -20,9 +20,17 @@ use Rattle.refusals.specs.Outcome.{outcome}
 use Rattle.refusals.proofs.Table.{Decides, passed, failed, all-passed, NoRow, accepted-no-row, answer-by}
 use Rattle.encoder.specs.declared.Encoded.{Encoded}
 use Rattle.encoder.specs.declared.Encoded.the-variants.{Pair, Refused}
+use Rattle.encoder.specs.declared.Tested.{Tested}
 use Rattle.encoder.specs.Encoding.{formatOf, firstPair, encodeTable, written, encodeAs, encodeOf}
 use Rattle.encoder.specs.Encodes.{CleanBlock, wrotePair, foundNone}
+use Rattle.encoder.specs.Tested.{TestedFor}
 use Rattle.encoder.proofs.Pairs.{pair-written}
+
+-- ---- the tests before the search
+
+-- what they tell of an output, by the case of their answer
+pub told : (u out : List ℕ) (answer case : Tested) → ((o : List ℕ) → length o ≡ length out → TestedFor u o answer) → answer ≡ case → TestedFor u out case
+told u out answer case tells e = subst (TestedFor u out) e (tells out refl)
 
 -- ---- the rows
 

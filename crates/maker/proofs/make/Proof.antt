@@ -1,124 +1,64 @@
--- `maker::make` meets its contract, test by test. Assumes nothing.
-use mathlib.Core.Path.{_≡_, sym, _∙_}
-use mathlib.Core.Bool.{true}
-use Prim.Native.Nat.{_<_}
+-- `maker::make` meets its contract, by those of the tests and of the writing. Assumes nothing.
+use mathlib.Core.Path.{sym, _∙_}
 use native.Mathlib.Omega.{arith}
 use borrow.Author.Needs.{needs}
-use borrow.Author.Tests.{not-true, not-false}
-use lib.ListN.{length}
-use Rattle.bits.specs.Bits.{allBits}
-use Rattle.bits.proofs.Tests.{holds}
-use Rattle.formats.specs.declared.format.Format.{Format}
-use Rattle.formats.specs.Numbers.{numbersOf}
-use Rattle.telegrams.specs.Telegram.{isPair}
-use Rattle.telegrams.proofs.Pair.{pair-below}
-use Rattle.maker.proofs.Steps.{length-refused, bits-refused, pair-refused, room-refused}
+use Rattle.maker.specs.Makes.{InOrder}
+use Rattle.maker.proofs.PairTests.{tested-refused, clean-in-order}
+use Rattle.maker.proofs.Steps.{tests-refuse}
 use Rattle.maker.proofs.make.Statement.{statement}
 use Rattle.maker.proofs.make.Tie as tie
 
-of-length-requires : tie.Need-of-length-requires
-of-length-requires c κs = search needs
+test-requires : tie.Need-test-requires
+test-requires c κs = search needs
 
-user-bits-requires : tie.Need-user-bits-requires
-user-bits-requires c κs = search needs
+enum-known-tested : tie.Need-enum-known-tested
+enum-known-tested c = search needs
 
--- what the call was given, and the format
-abbrev start : tie.After-user-bits → tie.Start
-start c = c .before .before .before .before
+enum-known-tested-2 : tie.Need-enum-known-tested-2
+enum-known-tested-2 c = search needs
 
-abbrev format : tie.After-user-bits → Format
-format c = c .before .of-length .result
+-- what the call was given
+abbrev start : tie.After-test → tie.Start
+start c = c .before .before .before
+
+-- all is in order
+in-order : (c : tie.After-tested2) → let a = start (c .before .before) .args in
+    InOrder (c .tested2 .given .0 .0) (a .block .now) (a .b) (a .esb) (a .output .now)
+in-order c =
+    let test = c .before .before in
+    clean-in-order _ _ _ _ _ (sym (test .test .ensures) ∙ c .tested2 .given .1)
+
+cast-write-telegram : tie.Need-cast-write-telegram
+cast-write-telegram c = omega (arith, in-order (c .before) .scrambling)
+
+cast-write-telegram-2 : tie.Need-cast-write-telegram-2
+cast-write-telegram-2 c = omega (arith, in-order (c .before) .shaping)
+
+write-telegram-requires : tie.Need-write-telegram-requires
+write-telegram-requires c κs = in-order (c .before .before)
 
 returns : tie.Need-returns
 returns c =
-    let a = start (c .before) .args in
-    length-refused (format (c .before)) (a .block .now) (a .b) (a .esb) (a .output .now) (c .before .before .of-length .ensures) (λ e. omega arith)
-
--- the length is the format's
-size : (c : tie.Else1) → length (start (c .before) .args .block .now) ≡ numbersOf (format (c .before)) .m
-size c = omega arith
-
-all-bits-requires : tie.Need-all-bits-requires
-all-bits-requires c κs = search needs
-
-returns-2 : tie.Need-returns-2
-returns-2 c =
-    let sized = c .before .before in
-    let a = start (sized .before) .args in
-    bits-refused (format (sized .before)) (a .block .now) (a .b) (a .esb) (a .output .now) (size sized)
-    (sym (c .before .all-bits .ensures) ∙ not-true _ (c .if2 .taken))
-
--- every byte is 0 or 1
-all : (c : tie.Else2) → allBits (start (c .before .before .before) .args .block .now) ≡ true
-all c = sym (c .before .all-bits .ensures) ∙ not-false _ (c .if2 .left)
-
-is-pair-requires : tie.Need-is-pair-requires
-is-pair-requires c κs = search needs
-
-returns-3 : tie.Need-returns-3
-returns-3 c =
-    let bits = c .before .before in
-    let sized = bits .before .before in
-    let a = start (sized .before) .args in
-    pair-refused (format (sized .before)) (a .block .now) (a .b) (a .esb) (a .output .now) (size sized) (all bits)
-    (sym (c .before .is-pair .ensures) ∙ not-true _ (c .if3 .taken))
-
--- B and esb are a pair
-pair : (c : tie.Else3) → let a = start (c .before .before .before .before .before) .args in
-    isPair (a .b) (a .esb) ≡ true
-pair c = sym (c .before .is-pair .ensures) ∙ not-false _ (c .if3 .left)
-
-below : (c : tie.Else3) → let a = start (c .before .before .before .before .before) .args in
-    (a .b < 4096) × (a .esb < 1024)
-below c =
-    let a = start (c .before .before .before .before .before) .args in
-    pair-below (a .b) (a .esb) .0 (holds _ (pair c))
-
-telegram-bits-requires : tie.Need-telegram-bits-requires
-telegram-bits-requires c κs = search needs
-
-returns-4 : tie.Need-returns-4
-returns-4 c =
-    let pairs = c .before .before in
-    let bits = pairs .before .before in
-    let sized = bits .before .before in
-    let a = start (sized .before) .args in
-    room-refused (format (sized .before)) (a .block .now) (a .b) (a .esb) (a .output .now) (size sized) (all bits) (pair pairs) (omega arith)
-
-cast-write-telegram : tie.Need-cast-write-telegram
-cast-write-telegram c = omega (arith, below (c .before .before))
-
-cast-write-telegram-2 : tie.Need-cast-write-telegram-2
-cast-write-telegram-2 c = omega (arith, below (c .before .before))
-
-write-telegram-requires : tie.Need-write-telegram-requires
-write-telegram-requires c κs =
-    let pairs = c .before .before .before in
-    let bits = pairs .before .before in
-    let numbers = below pairs in
-    record { size = size (bits .before .before); bits = holds _ (all bits); scrambling = numbers .0; shaping = numbers .1; room = omega arith }
+    let tested = c .before in
+    let test = tested .before .before in
+    tests-refuse _ _ _ _ _ (tested-refused _ _ _ _ _ (sym (test .test .ensures) ∙ tested .tested .given .1))
 
 same-length : tie.Need-same-length
 same-length c = search needs
 
-returns-5 : tie.Need-returns-5
-returns-5 c = c .before .before .write-telegram .ensures
+returns-2 : tie.Need-returns-2
+returns-2 c = search needs
 
 pub make-spec : {M : Type 1} → statement M
 make-spec =
     tie.close
     (tie.spec
-    of-length-requires
-    user-bits-requires
-    returns
-    all-bits-requires
-    returns-2
-    is-pair-requires
-    returns-3
-    telegram-bits-requires
-    returns-4
+    test-requires
+    enum-known-tested
+    enum-known-tested-2
     cast-write-telegram
     cast-write-telegram-2
     write-telegram-requires
+    returns
     same-length
-    returns-5)
+    returns-2)

@@ -7,8 +7,8 @@ use compare::documents::{document, meanings, Meaning};
 use compare::programs::{stderr, stdout, PROGRAMS};
 use std::fs;
 
-/// The six commands, each with an input that is accepted.
-fn accepted() -> [(&'static str, String); 6] {
+/// The seven commands, each with an input that is accepted.
+fn accepted() -> [(&'static str, String); 7] {
     [
         ("encode", example("encode_block")),
         ("check", proper()),
@@ -16,6 +16,7 @@ fn accepted() -> [(&'static str, String); 6] {
         ("read-well-formed", not_proper()),
         ("search", example("search_capture")),
         (MAKE, example("make_telegram")),
+        ("pairs", example("list_pairs")),
     ]
 }
 
@@ -72,8 +73,8 @@ fn only_line_four() {
         let only = words(command, &["--only"]);
         let whole = stdout(&scratch.balise(&words(command, &[]), input.as_bytes()));
         let ran = scratch.balise(&only, input.as_bytes());
-        if command == "check" {
-            assert_no_answer(&ran, "check has no line four");
+        if ["check", "pairs"].contains(&command) {
+            assert_no_answer(&ran, &format!("{command} has no line four"));
             continue;
         }
         let four = whole.lines().nth(3).expect("line four");
@@ -287,6 +288,7 @@ fn usage() {
         assert!(stdout(&ran).starts_with("usage: balise COMMAND"));
         assert!(stdout(&ran).contains("\n  read-well-formed\n"));
         assert!(stdout(&ran).contains("\n  make B ESB\n"));
+        assert!(stdout(&ran).contains("\n  pairs    a block"));
     }
     assert_no_answer(&scratch.balise(&[], b""), "usage: balise");
     assert_no_answer(&scratch.balise(&["burn"], b""), "no command 'burn'");

@@ -6,6 +6,7 @@ mod answers;
 mod builds;
 mod inputs;
 mod make;
+mod pairs;
 mod scratch;
 
 use compare::documents::document;

@@ -1,22 +1,17 @@
 -- `balise::as_number::encoded` meets its contract, case by case. Assumes nothing.
-use Prim.Native.Nat.{ℕ}
-use mathlib.Core.Path.{ap}
 use native.Mathlib.Omega.{arith}
 use borrow.Author.Needs.{needs}
-use Rattle.encoder.specs.declared.Encoded.{Encoded}
 use Rattle.encoder.specs.Encoding.{encodedValues}
-use Rattle.balise.specs.AsNumber.{packed, encodedSizes}
+use Rattle.balise.specs.AsNumber.{encodedSizes}
+use Rattle.balise.proofs.Answers.{same-number}
 use Rattle.balise.proofs.as_number.encoded.Statement.{statement}
 use Rattle.balise.proofs.as_number.encoded.Tie as tie
 
-abbrev number : Encoded → ℕ
-number a = packed encodedSizes (encodedValues a)
-
 returns : tie.Need-returns
-returns c = omega (arith, ap number (c .before .before .before .answer .given .1))
+returns c = omega (arith, same-number encodedSizes encodedValues (c .before .before .before .answer .given .1))
 
 returns-2 : tie.Need-returns-2
-returns-2 c = omega (arith, ap number (c .before .before .before .before .answer2 .given .1))
+returns-2 c = omega (arith, same-number encodedSizes encodedValues (c .before .before .before .before .answer2 .given .1))
 
 pub encoded-spec : {M : Type 1} → statement M
 encoded-spec =

@@ -1,26 +1,20 @@
 -- `balise::as_number::made` meets its contract, case by case. Assumes nothing.
-use mathlib.Core.Path.{ap, subst}
-use Prim.Native.Nat.{ℕ}
 use native.Mathlib.Omega.{arith}
 use borrow.Author.Needs.{needs}
-use Rattle.maker.specs.declared.Made.{Made}
 use Rattle.maker.specs.Making.{madeValues}
-use Rattle.balise.specs.AsNumber.{packed, madeSizes, Fits}
+use Rattle.balise.specs.AsNumber.{madeSizes}
+use Rattle.balise.proofs.Answers.{same-fits, same-number}
 use Rattle.balise.proofs.as_number.made.Statement.{statement}
 use Rattle.balise.proofs.as_number.made.Tie as tie
 
-abbrev number : Made → ℕ
-number a = packed madeSizes (madeValues a)
-
 refusal-fields-requires : tie.Need-refusal-fields-requires
-refusal-fields-requires c κs =
-    subst (λ (a : Made). Fits madeSizes (madeValues a)) (c .before .answer2 .given .1) (c .before .before .before .pre)
+refusal-fields-requires c κs = same-fits madeSizes madeValues (c .before .answer2 .given .1) (c .before .before .before .pre)
 
 returns : tie.Need-returns
-returns c = omega (arith, ap number (c .before .before .answer .given .1))
+returns c = omega (arith, same-number madeSizes madeValues (c .before .before .answer .given .1))
 
 returns-2 : tie.Need-returns-2
-returns-2 c = omega (arith, ap number (c .before .before .answer2 .given .1))
+returns-2 c = omega (arith, same-number madeSizes madeValues (c .before .before .answer2 .given .1))
 
 pub made-spec : {M : Type 1} → statement M
 made-spec =
