@@ -8,7 +8,7 @@ use second::random::Random;
 use std::hint::black_box;
 
 /// Random blocks of each format.
-const BLOCKS: usize = 3;
+const BLOCKS: usize = 5;
 
 /// Pairs of each block.
 const PAIRS: usize = 100;
