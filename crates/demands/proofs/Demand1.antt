@@ -2,6 +2,7 @@
 use Rattle.encoder.proofs.Exact.{encode-answers}
 use Rattle.checker.proofs.Exact.{checks}
 use Rattle.maker.proofs.Exact.{make-answers}
+use Rattle.lister.proofs.Exact.{next-answers}
 use Rattle.reader.specs.declared.Asked.the-variants.{WellFormed, Proper}
 use Rattle.reader.proofs.Exact.{read-answers}
 use Rattle.captures.proofs.Exact.{searches}
@@ -13,6 +14,7 @@ demand1 =
       encode = encode-answers;
       check = λ b. checks b .refuses;
       make = make-answers;
+      next = next-answers;
       read = read-answers Proper;
       readWellFormed = read-answers WellFormed;
       search = λ s. searches s .refuses;
