@@ -1,5 +1,6 @@
-// Reads a block of user bits from standard input, characters 0 and 1, and writes the first hundred pairs of scrambling and
-// extra shaping bits whose telegrams are proper, in counting order, then whether there are more (document 02, No. 9).
+// Reads a block of user bits from standard input, characters 0 and 1, and writes the first hundred pairs of scrambling
+// and extra shaping bits whose telegrams are proper, in counting order, and then whether there are more (document 02,
+// No. 9).
 use formats::format::Long;
 use libc::STDERR_FILENO;
 use libc::STDOUT_FILENO;
@@ -31,8 +32,8 @@ fn print_more() {
     io::write_all(STDOUT_FILENO, b"more\n");
 }
 
-// The one line of a refused block, and what is wrong on standard error. Every byte that was read is a bit, and there is room
-// for a telegram: only the number of bits is refused.
+// The one line of a refused block, and what is wrong on standard error. Every byte that was read is a bit, and there is
+// room for a telegram: only the number of bits is refused.
 fn print_refused(count: usize) {
     output::print_bad();
     io::write_all(
