@@ -17,6 +17,7 @@ use Rattle.refusals.specs.Refused.{pairCount}
 use Rattle.refusals.specs.Outcome.{Outcome}
 use Rattle.cyclic.proofs.Formats.{factsOf}
 use Rattle.telegrams.proofs.Made.{length-made}
+use Rattle.encoder.specs.Encodes.{CleanBlock}
 use Rattle.encoder.specs.Encoding.{telegramAt, passes}
 use Rattle.encoder.proofs.Pairs.{pair-scrambling, pair-shaping}
 use Rattle.quick_encoder.specs.PairFrom.{pairFrom}
@@ -151,13 +152,16 @@ module _ (format : Format) (u : List ℕ) (bits : T (allBits u)) (size : length 
           let below = ltb-true p pairCount e in
           ap (listing (suc calls) u out) (onward-from p below) ∙ one-call calls p out after room below enough
 
-  pub lists-all : (out : List ℕ) → numbersOf format .n ≤ length out → ListsAll format u out
-  unfolding properPairs onwardAt
-  lists-all out room =
-      record {
-        all = λ calls enough. lists-from calls 0 out room (omega arith) (omega arith);
-        onward = λ B esb small below calls enough.
-            let p : ℕ = 1024 * B + esb in
-            let starts : From B esb ≡ From (p / 1024) (p % 1024) = sym (ap₂ From (pair-scrambling B esb below) (pair-shaping B esb below)) in
-            ap (listing calls u out) (starts ∙ sym (onward-from p (omega arith))) ∙ lists-from calls p out room (omega arith) (omega arith);
-      }
+pub lists-all : (format : Format) (u out : List ℕ) → CleanBlock format u out → ListsAll format u out
+unfolding properPairs onwardAt
+lists-all format u out clean =
+    record {
+      all = λ calls enough. from calls 0 (omega arith) (omega arith);
+      onward = λ B esb small below calls enough.
+          let p : ℕ = 1024 * B + esb in
+          let starts : From B esb ≡ From (p / 1024) (p % 1024) = sym (ap₂ From (pair-scrambling B esb below) (pair-shaping B esb below)) in
+          ap (listing calls u out) (starts ∙ sym (onward-from p (omega arith))) ∙ from calls p (omega arith) (omega arith);
+    }
+  where
+    from : (calls p : ℕ) → p ≤ pairCount → pairCount - p ≤ calls → listing calls u out (onwardAt p) ≡ properFrom format u p (pairCount - p)
+    from calls p = lists-from format u (clean .bits) (clean .size) calls p out (clean .room)

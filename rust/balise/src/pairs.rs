@@ -69,8 +69,9 @@ impl Iterator for Pairs<'_> {
             return self.first.take();
         }
         let (b, esb) = self.from.take()?;
-        // the first call took the same block, and no pair after another is too large
-        let choice = choice_from(self.block, b, esb).expect("a good block and pair")?;
+        // the first call took the same block, and no pair after another is too large:
+        // nothing is refused
+        let choice = choice_from(self.block, b, esb).ok().flatten()?;
         self.from = choice.pair.after();
         Some(choice)
     }
