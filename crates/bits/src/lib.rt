@@ -62,3 +62,14 @@ pub fn flip(s: &mut [u8])
         i += 1;
     }
 }
+
+// Copies from over the front of out, and answers how many bytes that are.
+pub fn copy(from: &[u8], out: &mut [u8]) -> usize
+    requires { length from.now ≤ length out.old }
+    ensures count { result ≡ length from.now }
+    ensures copied { out.new ≡ from.now ++ drop (length from.now) out.old }
+{
+    let n = from.len();
+    out[..n].copy_from_slice(from);
+    n
+}

@@ -16,21 +16,21 @@ use refusals::Refusal;
 pub const LIMIT: usize = 7500;
 
 // What searching a capture answers: the first place at which a window is read, with its reading, or a refusal.
-#[derive(Drop)]
+#[derive(Clone, Copy)]
 pub enum Capture {
     Found { place: usize, reading: Reading },
     Refused(Refusal),
 }
 
 // What the tests before the search answer: a capture to search, with room for what is found, or refusal 1, 2 or 3.
-#[derive(Drop)]
+#[derive(Clone, Copy)]
 pub enum Tested {
     Clean,
     Refused(Refusal),
 }
 
 // What one try answers.
-#[derive(Drop)]
+#[derive(Clone, Copy)]
 enum Tried {
     Reads(Reading),
     Nothing,

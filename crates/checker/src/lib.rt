@@ -15,7 +15,7 @@ use telegrams::fields;
 use telegrams::fields::Worded;
 
 // What checking a telegram answers.
-#[derive(Drop)]
+#[derive(Clone, Copy)]
 pub enum Checked {
     Proper(Format),
     Refused(Refusal),

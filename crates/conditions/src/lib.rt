@@ -16,7 +16,7 @@ pub mod run;
 pub mod thinned;
 
 // Which condition fails, by its refusal.
-#[derive(Drop)]
+#[derive(Clone, Copy)]
 pub enum Failing {
     First(Refusal),
     None,

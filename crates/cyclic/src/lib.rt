@@ -6,7 +6,7 @@ pub mod remainder;
 pub mod turning;
 
 // The turn that a remainder by f belongs to.
-#[derive(Drop)]
+#[derive(Clone, Copy)]
 pub enum Turn {
     At(usize),
     Nothing,

@@ -16,7 +16,7 @@ pub mod search;
 
 // What encoding a block answers: the format, the pair of scrambling and extra shaping bits and the count of
 // pairs tried, or a refusal.
-#[derive(Drop)]
+#[derive(Clone, Copy)]
 pub enum Encoded {
     Pair {
         format: Format,
@@ -28,7 +28,7 @@ pub enum Encoded {
 }
 
 // What the tests before the search answer: the block's format, or refusal 1, 2 or 3.
-#[derive(Drop)]
+#[derive(Clone, Copy)]
 pub enum Tested {
     Clean(Format),
     Refused(Refusal),

@@ -10,7 +10,7 @@ use formats::format::{Format, Long};
 use telegrams::{fields, making};
 
 // The first pair of scrambling bits and extra shaping bits that passes.
-#[derive(Drop)]
+#[derive(Clone, Copy)]
 pub enum Search {
     Pair { scrambling: u16, shaping: u16 },
     Nothing,

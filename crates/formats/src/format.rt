@@ -7,13 +7,13 @@ ghost use Rattle.formats.specs.Value.{value_of};
 
 use crate::register::Register;
 
-#[derive(Drop)]
+#[derive(Clone, Copy)]
 pub enum Format {
     Long,
     Short,
 }
 
-#[derive(Drop)]
+#[derive(Clone, Copy)]
 pub struct Long {}
 
 impl Long {
@@ -60,7 +60,7 @@ impl Long {
     }
 }
 
-#[derive(Drop)]
+#[derive(Clone, Copy)]
 pub struct Short {}
 
 impl Short {

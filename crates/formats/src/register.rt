@@ -4,7 +4,7 @@ ghost use Rattle.std.specs.Prelude.{◌≡◌, ◌<◌, ◌^◌, T};
 ghost use Rattle.std.specs.Int.Bits.{bit_xor};
 ghost use Rattle.formats.specs.Value.{value_of, powers, all_below};
 
-#[derive(Drop)]
+#[derive(Clone, Copy)]
 pub struct Register {
     pub high: u64,
     pub low: u64,

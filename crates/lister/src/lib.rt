@@ -13,7 +13,7 @@ use telegrams::making;
 
 // What asking for the next pair answers: a pair of scrambling and extra shaping bits whose telegram is proper, that there are no more, or
 // a refusal.
-#[derive(Drop)]
+#[derive(Clone, Copy)]
 pub enum Listed {
     Pair {
         format: Format,
@@ -25,7 +25,7 @@ pub enum Listed {
 }
 
 // Where a listing goes on: from a pair, or nowhere, since it has ended.
-#[derive(Drop)]
+#[derive(Clone, Copy)]
 pub enum Onward {
     From { scrambling: u16, shaping: u16 },
     Ended,

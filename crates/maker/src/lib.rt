@@ -12,14 +12,14 @@ use telegrams::fields::Worded;
 use telegrams::{fields, making};
 
 // What making a telegram answers: its format, or a refusal.
-#[derive(Drop)]
+#[derive(Clone, Copy)]
 pub enum Made {
     Telegram(Format),
     Refused(Refusal),
 }
 
 // What the tests of a block, a pair and an output answer: the block's format, or refusal 1, 2, 27 or 3.
-#[derive(Drop)]
+#[derive(Clone, Copy)]
 pub enum Tested {
     Clean(Format),
     Refused(Refusal),
@@ -58,7 +58,7 @@ fn write_telegram(format: Format, block: &[u8], b: u16, esb: u16, output: &mut [
     if let Worded::NotWord(bad) = fields::go_through(&telegram[..n], words) {
         return Made::Refused(Refusal::NotWord(bad));
     }
-    bytes::copy(&telegram[..n], output);
+    bits::copy(&telegram[..n], output);
     Made::Telegram(format)
 }
 

@@ -17,7 +17,7 @@ use formats::format::{Format, Long};
 use telegrams::making;
 
 // The extra shaping bits of the first telegram that passes.
-#[derive(Drop)]
+#[derive(Clone, Copy)]
 pub enum Shaping {
     At(u16),
     Nothing,

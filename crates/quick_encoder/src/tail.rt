@@ -9,7 +9,7 @@ ghost use Rattle.quick_encoder.specs.Tail.{tail_bits};
 use formats::register::Register;
 
 // b109 to b55, and b54 to b0.
-#[derive(Drop)]
+#[derive(Clone, Copy)]
 pub struct Tail {
     pub high: u64,
     pub low: u64,

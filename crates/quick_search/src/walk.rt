@@ -11,7 +11,7 @@ use reader::{Asked, ReadAnswer, Reading, tested};
 
 // What a step answers: the reading of the window at the place, or a later place, before which no window is accepted, and whether a refused
 // run goes on up to it.
-#[derive(Drop)]
+#[derive(Clone, Copy)]
 pub enum Walked {
     Reads(Reading),
     Next { place: usize, refused: bool },

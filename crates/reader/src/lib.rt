@@ -12,14 +12,14 @@ pub mod tested;
 mod turned;
 
 // What a call asks of the telegram in a window (document 02, No. 2).
-#[derive(Drop)]
+#[derive(Clone, Copy)]
 pub enum Asked {
     WellFormed,
     Proper,
 }
 
 // What a window tells besides the user bits.
-#[derive(Drop)]
+#[derive(Clone, Copy)]
 pub struct Reading {
     pub format: Format,
     pub scrambling: u16,
@@ -29,7 +29,7 @@ pub struct Reading {
 }
 
 // What reading a window answers.
-#[derive(Drop)]
+#[derive(Clone, Copy)]
 pub enum ReadAnswer {
     Read(Reading),
     Refused(Refusal),

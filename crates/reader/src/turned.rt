@@ -15,8 +15,8 @@ fn turn_back(first: &[u8], t: usize, out: &mut [u8])
     ensures { out.new ≡ turned (length first.now - t) first.now ++ drop (length first.now) out.old }
 {
     let k = first.len() - t;
-    let at = bytes::copy(&first[k..], out);
-    bytes::copy(&first[..k], &mut out[at..]);
+    let at = bits::copy(&first[k..], out);
+    bits::copy(&first[..k], &mut out[at..]);
 }
 
 // The telegram of a window at the turn t, over the front of out, and whether it is flipped in the window.

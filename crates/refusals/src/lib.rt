@@ -5,7 +5,7 @@ ghost use Rattle.refusals.specs.Refused.{refusal_number, tried_count, bad_word_i
 
 use words::{BadWord, Kind};
 
-#[derive(Drop)]
+#[derive(Clone, Copy)]
 pub enum Refusal {
     Length,
     NotBit,

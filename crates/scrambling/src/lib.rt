@@ -10,7 +10,7 @@ ghost use Rattle.scrambling.specs.Sum.{with_sum, without_sum};
 const FEEDBACK: u32 = 0xea00_0001;
 
 // The register of scrambling and of its undoing.
-#[derive(Drop)]
+#[derive(Clone, Copy)]
 pub struct Scrambler {
     pub state: u32,
 }

@@ -12,7 +12,7 @@ use formats::format::Format;
 use words::BadWord;
 
 // What going through some words tells: each is in the table, or the first that is not.
-#[derive(Drop)]
+#[derive(Clone, Copy)]
 pub enum Worded {
     Whole,
     NotWord(BadWord),

@@ -39,7 +39,7 @@ pub fn write_summed(block: &[u8], out: &mut [u8])
     requires block_in_bounds { length block.now ≤ length out.old }
     ensures { out.new ≡ with_sum (length block.now / 10) block.now ++ drop (length block.now) out.old }
 {
-    let m = bytes::copy(block, out);
+    let m = bits::copy(block, out);
     scrambling::add_sum(&mut out[..m]);
 }
 

@@ -9,7 +9,7 @@ use libc::STDIN_FILENO;
 
 // What one read came to: how many bits the buffer then holds and how many bytes are then read, the end of the input,
 // or a bad text.
-#[derive(Drop)]
+#[derive(Clone, Copy)]
 enum OneRead {
     More(usize, u64),
     End,

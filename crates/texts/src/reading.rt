@@ -5,7 +5,7 @@ ghost use Rattle.refusals.specs.Outcome.{outcome};
 ghost use Rattle.texts.specs.Reading.{character_of, taken_into};
 
 // What a byte of a text is.
-#[derive(Drop)]
+#[derive(Clone, Copy)]
 pub enum Character {
     Bit(u8),
     Skipped,
@@ -13,7 +13,7 @@ pub enum Character {
 }
 
 // How many bits of a text the buffer holds, or that the text is bad.
-#[derive(Drop)]
+#[derive(Clone, Copy)]
 pub enum Progress {
     Count(usize),
     Bad,

@@ -3,7 +3,7 @@ ghost use Rattle.std.specs.Prelude.{◌≡◌, get_or};
 ghost use Rattle.words.specs.BarredOf64.{group250, group20};
 
 // 64 neighbouring words: bit p tells whether the one at place p is in the group of 250, and whether it is in the group of 20.
-#[derive(Drop)]
+#[derive(Clone, Copy)]
 pub struct Barred {
     pub group_250: u64,
     pub group_20: u64,

@@ -13,7 +13,7 @@ use table::TABLE;
 
 // What a word is that the table does not have (document 02, No. 13): in the group of 250 barred words, in the group of 20, or simply
 // not in the table.
-#[derive(Drop)]
+#[derive(Clone, Copy)]
 pub enum Kind {
     Group250,
     Group20,
@@ -21,14 +21,14 @@ pub enum Kind {
 }
 
 // What looking a word up finds: its number, or the kind of a word that the table does not have.
-#[derive(Drop)]
+#[derive(Clone, Copy)]
 pub enum Lookup {
     Number(u16),
     NotInTable(Kind),
 }
 
 // A word of a telegram that the table does not have: its kind, and its index among the words, from 0 at the left.
-#[derive(Drop)]
+#[derive(Clone, Copy)]
 pub struct BadWord {
     pub kind: Kind,
     pub index: usize,

@@ -4,7 +4,7 @@ ghost use Rattle.std.specs.Prelude.{◌≡◌, get_or};
 ghost use Rattle.words.specs.PartsOf64.{present, before};
 
 // 64 neighbouring words: bit p tells whether the one at place p is in the table, and how many words of the table are below all 64.
-#[derive(Drop)]
+#[derive(Clone, Copy)]
 pub struct Part {
     pub words: u64,
     pub before: u16,
