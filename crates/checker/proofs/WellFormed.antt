@@ -82,4 +82,4 @@ unfolding check_table
 form_passed format b h v d =
     let F = numbers_of format in
     let p = parts F b h in
-    formed_passed format b (but_words F b p) v (passed (is_true (all_words F.words b) p.all_words) d)
+    formed_passed format b (but_words F b p) v (passed (is_true (all_words F.words b) p.words_in_table) d)

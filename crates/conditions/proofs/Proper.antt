@@ -12,7 +12,7 @@ use Rattle.conditions.specs.Conditions.{off_step_within, not_repeating, thinned_
 pub record Proper (format : Format) (b : List ℕ) : Type 0 where
   pub is_well_formed : T (well_formed (numbers_of format) b)
   pub off_step : T (off_step_within format b)
-  pub not_repeating_lem : T (not_repeating format b)
+  pub no_repeats : T (not_repeating format b)
   pub thinned : T (thinned_within format b)
 
 module _ (format : Format) (b : List ℕ) where
@@ -28,6 +28,6 @@ module _ (format : Format) (b : List ℕ) where
       record {
         is_well_formed = and_left w (o && (r && t)) h;
         off_step = and_left o (r && t) conditions;
-        not_repeating_lem = and_left r t last;
+        no_repeats = and_left r t last;
         thinned = and_right r t last;
       }

@@ -91,7 +91,7 @@ short_from_long_lem : (u : List ℕ) (B esb : ℕ) (b : List ℕ) → Wrote Long
     → (length out < short.m → read_of w out ≡ refused_with OutputShort out) × (short.m ≤ length out → read_of w out ≡ refused_with EndsDiffer out)
 short_from_long_lem u B esb b wrote t below flipped w bits size few out =
     let h = parts long b (wrote_formed Long u B esb b wrote) in
-    let apart = (proper_parts Long b (wrote-proper Long u B esb b wrote)).not_repeating in
+    let apart = (proper_parts Long b (wrote-proper Long u B esb b wrote)).no_repeats in
     let fits = read_as_lem Proper Short w out size in
     let are_bits = is_true (all_bits w) bits in (
       λ less. fits ∙ room_refused Proper Short w out size are_bits less,

@@ -180,7 +180,7 @@ module _ (asked : Asked) (format : Format) (w : List ℕ) where
               divided = found.divided;
               turn = ap is_turn found.turn;
               controlled = ap (λ (l : List ℕ). same (control_of F l) control) telegram ∙ equal_same (control_of F b) control h.control_is;
-              worded = ap (all_words F.words) telegram ∙ is_true (all_words F.words b) h.all_words;
+              worded = ap (all_words F.words) telegram ∙ is_true (all_words F.words b) h.words_in_table;
               as_asked = ap (λ (l : List ℕ). verdict (asked_table asked format l)) telegram ∙ passes;
             });
         reading = rw (found.turn, found.flip, found.telegram, ← c.scrambling, ← c.shaping) refl;

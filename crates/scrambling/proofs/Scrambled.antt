@@ -7,22 +7,22 @@ use Rattle.scrambling.specs.Scrambling.{seed_of, top_bit, xor_bit, next_state, s
 length-scrambled_from : (r : ℕ) (u : List ℕ) → length (scrambled_from r u) ≡ length u
 unfolding scrambled_from
 length-scrambled_from r [] = refl
-length-scrambled_from r (b ∷ u) = ap suc (length-scrambled_from _ u)
+length-scrambled_from r (b ∷ u) = ap suc (length-scrambled_from (next_state r (xor_bit (top_bit r) b)) u)
 
 length-descrambled_from : (r : ℕ) (v : List ℕ) → length (descrambled_from r v) ≡ length v
 unfolding descrambled_from
 length-descrambled_from r [] = refl
-length-descrambled_from r (s ∷ v) = ap suc (length-descrambled_from _ v)
+length-descrambled_from r (s ∷ v) = ap suc (length-descrambled_from (next_state r s) v)
 
 bits_scrambled_from : (r : ℕ) (u : List ℕ) → T (all_bits (scrambled_from r u))
 unfolding scrambled_from
 bits_scrambled_from r [] = all_bits-nil
-bits_scrambled_from r (b ∷ u) = all_bits-cons _ _ (omega arith) (bits_scrambled_from _ u)
+bits_scrambled_from r (b ∷ u) = all_bits-cons _ _ (omega arith) (bits_scrambled_from (next_state r (xor_bit (top_bit r) b)) u)
 
 bits_descrambled_from : (r : ℕ) (v : List ℕ) → T (all_bits (descrambled_from r v))
 unfolding descrambled_from
 bits_descrambled_from r [] = all_bits-nil
-bits_descrambled_from r (s ∷ v) = all_bits-cons _ _ (omega arith) (bits_descrambled_from _ v)
+bits_descrambled_from r (s ∷ v) = all_bits-cons _ _ (omega arith) (bits_descrambled_from (next_state r s) v)
 
 -- XOR with the same bit twice
 xor_bit_twice : (a b : ℕ) → b < 2 → xor_bit a (xor_bit a b) ≡ b
@@ -32,7 +32,7 @@ descrambled_from-scrambled_from : (r : ℕ) (u : List ℕ) → T (all_bits u) �
 unfolding scrambled_from descrambled_from
 descrambled_from-scrambled_from r [] h = refl
 descrambled_from-scrambled_from r (b ∷ u) h =
-    ap₂ ◌∷◌ (xor_bit_twice (top_bit r) b (all_bits_head b u h)) (descrambled_from-scrambled_from _ u (all_bits-tail b u h))
+    ap₂ ◌∷◌ (xor_bit_twice (top_bit r) b (all_bits_head b u h)) (descrambled_from-scrambled_from (next_state r (xor_bit (top_bit r) b)) u (all_bits-tail b u h))
 
 scrambled_from-descrambled_from : (r : ℕ) (v : List ℕ) → T (all_bits v) → scrambled_from r (descrambled_from r v) ≡ v
 unfolding scrambled_from descrambled_from

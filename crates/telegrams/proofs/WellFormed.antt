@@ -45,7 +45,7 @@ pub record WellFormed (F : Numbers) (b : List ℕ) : Type 0 where
   pub size : length b ≡ F.n
   pub bits : T (all_bits b)
   pub control_is : control_of F b ≡ control
-  pub all_words_lem : T (all_words F.words b)
+  pub words_in_table : T (all_words F.words b)
   pub check : T (checked F b)
 
 pub parts : (F : Numbers) (b : List ℕ) → T (well_formed F b) → WellFormed F b
@@ -61,7 +61,7 @@ parts F b h =
       size = eqb→eq (length b) F.n (and_left e (all_bits b) bits);
       bits = and_right e (all_bits b) bits;
       control_is = same_equal _ _ (and_right (e && all_bits b) c control);
-      all_words_lem = and_right (e && all_bits b && c) w words;
+      words_in_table = and_right (e && all_bits b && c) w words;
       check = and_right (e && all_bits b && c && w) (checked F b) h;
     }
 
@@ -70,7 +70,7 @@ pub but_words : (F : Numbers) (b : List ℕ) → WellFormed F b → ControlAndCh
 but_words F b p = record { size = p.size; bits = p.bits; control_is = p.control_is; check = p.check }
 
 pub with_words : (F : Numbers) (b : List ℕ) → ControlAndCheck F b → T (all_words F.words b) → WellFormed F b
-with_words F b p words = record { size = p.size; bits = p.bits; control_is = p.control_is; all_words_lem = words; check = p.check }
+with_words F b p words = record { size = p.size; bits = p.bits; control_is = p.control_is; words_in_table = words; check = p.check }
 
 pub from_parts : (F : Numbers) (b : List ℕ) → WellFormed F b → T (well_formed F b)
 unfolding well_formed
@@ -82,7 +82,7 @@ from_parts F b p =
     and_of (e && all_bits b && c && w) (checked F b)
     (and_of (e && all_bits b && c) w
     (and_of (e && all_bits b) c (and_of e (all_bits b) sized p.bits) (same_of (control_of F b) control p.control_is))
-    p.all_words)
+    p.words_in_table)
     p.check
 
 -- ---- the words are those of the shaped data and the last ten
@@ -108,7 +108,7 @@ module _ (F : Numbers) (S : Sizes F) (b : List ℕ) (h : WellFormed F b) where
       let place : 11 * k ≡ F.n - 110 = omega (arith, S.n_is) in
       let within : 11 * k ≤ length b = omega (arith, S.n_is, h.size) in
       let ten : 10 ≤ length d = omega (arith, descrambled-length B s, length-unshaped k b, S.some) in
-      let words : T (all_words k b) = and_left (all_words k b) (all_words 10 (drop (F.n - 110) b)) (subst T (words_split F S b) h.all_words) in
+      let words : T (all_words k b) = and_left (all_words k b) (all_words 10 (drop (F.n - 110) b)) (subst T (words_split F S b) h.words_in_table) in
       ap (λ (v : List ℕ). shaped k (scrambled B v)) (with_sum-without_sum k d (descrambled_bits B s) S.some ten)
       ∙ ap (shaped k) (scrambled-descrambled B s (bits_unshaped k b))
       ∙ shaped-unshaped k b h.bits words within
@@ -155,7 +155,7 @@ module _ (F : Numbers) (A : Facts F) (S : Sizes F) (u : List ℕ) (B esb : ℕ) 
         size = length_made F A S u B esb;
         bits = bits_made F A S u B esb;
         control_is = control_made F A S u B esb;
-        all_words_lem = subst T (sym (words_split F S t)) (and_of (all_words (blocks F) t) (all_words 10 (drop (F.n - 110) t)) (words_made F A S u B esb) h);
+        words_in_table = subst T (sym (words_split F S t)) (and_of (all_words (blocks F) t) (all_words 10 (drop (F.n - 110) t)) (words_made F A S u B esb) h);
         check = checked_made F A S u B esb;
       }
 
@@ -164,7 +164,7 @@ module _ (F : Numbers) (A : Facts F) (S : Sizes F) (u : List ℕ) (B esb : ℕ) 
       let t = telegram_of F u B esb in
       let last = all_words 10 (drop (F.n - 110) t) in
       tests_agree (well_formed F t) last
-      (λ h. and_right (all_words (blocks F) t) last (subst T (words_split F S t) (parts F t h).all_words))
+      (λ h. and_right (all_words (blocks F) t) last (subst T (words_split F S t) (parts F t h).words_in_table))
       (λ h. from_parts F t (made_parts h))
 
   -- and so if all of them are

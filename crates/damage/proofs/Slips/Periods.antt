@@ -129,7 +129,7 @@ module _ (F : Numbers) (S : Sizes F) (b : List ℕ) (form : WellFormed F b) wher
       let place : 11 * j ≡ 11 * i + (j / F.words) * length b = rw size (omega (arith, div-add-mod' j F.words)) in
       let word : around 11 (11 * j) b ≡ take 11 (drop (11 * i) b) =
       ap (λ (p : ℕ). around 11 p b) place ∙ around_rounds 11 (11 * i) (j / F.words) b ∙ around_strip 11 (11 * i) b strip in
-      rw word (every-at is_word 11 F.words b form.all_words i inside)
+      rw word (every-at is_word 11 F.words b form.words_in_table i inside)
 
   module _ (limit reach : ℕ) (rule : Rule limit reach) (s : ℕ) (some : 1 ≤ s) (few : s ≤ limit) where
     -- m words from the j-th on have no period s together

@@ -1,0 +1,8 @@
+-- `balise::balise_encode_plain` meets its contract, by that of `encoder::encode`. Assumes nothing.
+use Rattle.encoder.specs.Encoding.{encoded_values}
+use Rattle.balise.specs.AsNumber.{encoded_sizes}
+use Rattle.balise.proofs.Answers.{answer_packed}
+use Rattle.balise.proofs.balise_encode_plain.Goals as goal
+
+pub returns : goal.returns
+returns c = answer_packed encoded_sizes encoded_values c.encode-plain.ensures c.encoded.ensures

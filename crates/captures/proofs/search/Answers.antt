@@ -1,0 +1,10 @@
+-- `captures::search` meets its contract. Assumes nothing.
+use mathlib.Core.Path.{sym, ap, ◌∙◌}
+use lib.Dec.{lit≤}
+use Rattle.refusals.specs.Outcome.{Outcome}
+use Rattle.captures.specs.declared.Capture.{Capture}
+use Rattle.captures.proofs.Steps.{same_answer}
+use Rattle.captures.proofs.search.Goals as goal
+
+pub returns : goal.returns
+returns c = sym (ap (λ (x : Outcome Capture). x.answer) c.search_read.ensures) ∙ same_answer _ _ (lit≤ tt)

@@ -1,0 +1,90 @@
+-- `checker::check_form` meets its contract: a verdict for each test reached. Assumes nothing.
+use borrow.Author.Tests.{not-false, eq-eqb}
+use mathlib.Core.Path.{◌≡◌, sym, ap, ◌∙◌}
+use mathlib.Core.Bool.{true}
+use Prim.Native.Nat.{ℕ}
+use native.Mathlib.Omega.{arith}
+use lib.ListN.{drop}
+use Rattle.bits.specs.Bits.{all_bits, same}
+use Rattle.bits.proofs.Tests.{is_true, holds}
+use Rattle.formats.specs.Numbers.{numbers_of}
+use Rattle.formats.proofs.Sizes.{words_fill}
+use Rattle.words.specs.declared.BadWord.{BadWord}
+use Rattle.refusals.specs.declared.Refusal.{Refusal}
+use Rattle.refusals.specs.declared.Refusal.TheVariants.{NotWord}
+use Rattle.refusals.specs.Table.{Verdict, answer_by}
+use Rattle.refusals.proofs.Table.{Decides, passed, failed}
+use Rattle.cyclic.specs.Check.{divisible, unturned}
+use Rattle.telegrams.specs.Telegram.{control}
+use Rattle.telegrams.specs.Fields.{control_of}
+use Rattle.telegrams.specs.Worded.{worded}
+use Rattle.telegrams.proofs.FirstBad.{whole_all, not_word_some}
+use Rattle.checker.specs.declared.Checked.TheVariants.{Proper, Refused}
+use Rattle.checker.specs.Checking.{check_table, check_as}
+use Rattle.checker.proofs.Steps.{decided}
+use Rattle.checker.proofs.WellFormed.{is_well_formed}
+use Rattle.checker.proofs.check_form.Goals as goal
+
+-- what the tests from divisibility on decide
+answered : (c : goal.Start) (v : Verdict Refusal) → Decides (drop 2 (check_table c.args.format c.args.telegram.now)) v
+    → answer_by Refused (Proper c.args.format) v ≡ check_as c.args.format c.args.telegram.now
+unfolding check_table
+answered c v d = sym (decided _ _ v (passed (eq-eqb _ _ c.requires.1) (passed (is_true (all_bits c.args.telegram.now) c.requires.0) d)))
+
+-- what the words tell, at the format's count
+told : (c : goal.After-go_through)
+    → let a = c.args in
+    c.go_through.result ≡ worded (numbers_of a.format).words a.telegram.now
+told c =
+    let a = c.args in
+    c.go_through.ensures ∙ ap (λ (k : ℕ). worded k a.telegram.now) c.words.ensures
+
+pub returns-then-not-divisible : goal.returns-then-not-divisible
+unfolding check_table
+returns-then-not-divisible c = answered (goal.at.returns-then-not-divisible c).Start _ (failed (sym c.divisible.ensures ∙ c.if-not-divisible.true))
+
+pub returns-then-not-unturned : goal.returns-then-not-unturned
+unfolding check_table
+returns-then-not-unturned c =
+    let divides : let a = c.args in divisible (numbers_of a.format) a.telegram.now ≡ true = sym c.divisible.ensures ∙ not-false _ c.if-not-divisible.false in
+    answered (goal.at.returns-then-not-unturned c).Start _ (passed (divides) (failed (sym c.unturned.ensures ∙ c.if-not-unturned.true)))
+
+pub returns-then-not-has_control : goal.returns-then-not-has_control
+unfolding check_table
+returns-then-not-has_control c =
+    let divides : let a = c.args in divisible (numbers_of a.format) a.telegram.now ≡ true = sym c.divisible.ensures ∙ not-false _ c.if-not-divisible.false in
+    let turned_0 : let a = c.args in unturned (numbers_of a.format) a.telegram.now ≡ true = sym c.unturned.ensures ∙ not-false _ c.if-not-unturned.false in
+    answered (goal.at.returns-then-not-has_control c).Start _
+    (passed (divides) (passed (turned_0) (failed (sym c.has_control.ensures ∙ c.if-not-has_control.true))))
+
+pub go_through-requires : goal.go_through-requires
+go_through-requires c =
+    record {
+      t = c.requires.0;
+      k_in_bounds = omega (arith, words_fill c.args.format, c.requires.1, c.words.ensures);
+    }
+
+pub returns-in-NotWord : goal.returns-in-NotWord
+unfolding check_table
+returns-in-NotWord c =
+    let divides : let a = c.args in divisible (numbers_of a.format) a.telegram.now ≡ true = sym c.divisible.ensures ∙ not-false _ c.if-not-divisible.false in
+    let turned_0 : let a = c.args in unturned (numbers_of a.format) a.telegram.now ≡ true = sym c.unturned.ensures ∙ not-false _ c.if-not-unturned.false in
+    let controlled : let a = c.args in same (control_of (numbers_of a.format) a.telegram.now) control ≡ true = sym c.has_control.ensures ∙ not-false _ c.if-not-has_control.false in
+    let (some, is) = not_word_some _ _ c.in-NotWord.bad (sym (told (goal.at.returns-in-NotWord c).After-go_through) ∙ c.in-NotWord.is) in
+    ap (λ (bad : BadWord). Refused (NotWord bad)) (sym is)
+    ∙ answered (goal.at.returns-in-NotWord c).Start _ (passed (divides) (passed (turned_0) (passed (controlled) (failed some))))
+
+pub check_conditions-requires : goal.check_conditions-requires
+check_conditions-requires c =
+    let divides : let a = c.args in divisible (numbers_of a.format) a.telegram.now ≡ true = sym c.divisible.ensures ∙ not-false _ c.if-not-divisible.false in
+    let turned_0 : let a = c.args in unturned (numbers_of a.format) a.telegram.now ≡ true = sym c.unturned.ensures ∙ not-false _ c.if-not-unturned.false in
+    let controlled : let a = c.args in same (control_of (numbers_of a.format) a.telegram.now) control ≡ true = sym c.has_control.ensures ∙ not-false _ c.if-not-has_control.false in
+    is_well_formed c.args.format c.args.telegram.now
+    record {
+      size = c.requires.1;
+      bits = c.requires.0;
+      divides = holds _ (divides);
+      turn = holds _ (turned_0);
+      has_control = holds _ (controlled);
+    }
+    (holds _ (whole_all _ _ (sym (told (goal.at.check_conditions-requires c).After-go_through) ∙ c.in_default.is)))

@@ -1,0 +1,51 @@
+-- `conditions::thinned::thinned_by` meets its contract: the front of the array is the thinned ring. Assumes nothing.
+use mathlib.Core.Path.{◌≡◌, sym, ap, ◌∙◌}
+use mathlib.Core.List.{List, ◌++◌}
+use Prim.Native.Nat.{ℕ, ◌*◌, ◌%◌, ◌^◌, ◌≤◌}
+use native.Mathlib.Omega.{arith}
+use lib.ListN.{length, take}
+use lib.Pow.{pow_mono}
+use lib.Seq.{take_at}
+use Rattle.formats.proofs.Sizes.{telegram_between}
+use Rattle.conditions.specs.Conditions.{from_to, thinned_below, thinned, thinned_at, thinned_by}
+use Rattle.conditions.proofs.ThinnedRing.{length-thinned_below, length-thinned, all_bits-thinned}
+use Rattle.conditions.proofs.thinned.thinned_by.Goals as goal
+
+-- the shift gives 2^k, at most 16
+power : (k : ℕ) → k ≤ 4 → (1 * 2 ^ k % 2 ^ 64 ≡ 2 ^ k) × (2 ^ k ≤ 16)
+power k h =
+    let small : 2 ^ k ≤ 2 ^ 4 = pow_mono h in
+    (omega arith, omega arith)
+
+-- what stands before the array's tail
+front : (b rest out : List ℕ) (k step : ℕ) → step ≡ 2 ^ k → out ≡ thinned_below (length b) step b ++ rest → take (length b) out ≡ thinned k b
+unfolding thinned
+front b rest out k step e f =
+    ap (take (length b)) f ∙ take_at (thinned_below (length b) step b) rest (length b) (length-thinned_below (length b) step b)
+    ∙ ap (λ (s : ℕ). thinned_below (length b) s b) e
+
+pub thin-requires : goal.thin-requires
+thin-requires c =
+    let n = telegram_between c.args.format in
+    let p = power c.args.k c.requires.1.1 in
+    (omega arith, (omega arith, omega arith))
+
+pub slice_bounds-v-end : goal.slice_bounds-v-end
+slice_bounds-v-end c = omega (arith, c.thin.auto.1.1.0, telegram_between c.args.format)
+
+pub slice_bounds-within_round-end : goal.slice_bounds-within_round-end
+slice_bounds-within_round-end c =
+    let written : take (length c.args.b.now) c.thin.new.out ≡ thinned c.args.k c.args.b.now = front c.args.b.now _ _ c.args.k _ (power c.args.k c.requires.1.1).0 c.thin.ensures in
+    sym (ap length (written) ∙ length-thinned _ _)
+
+pub within_round-requires : goal.within_round-requires
+within_round-requires c =
+    let written : take (length c.args.b.now) c.thin.new.out ≡ thinned c.args.k c.args.b.now = front c.args.b.now _ _ c.args.k _ (power c.args.k c.requires.1.1).0 c.thin.ensures in
+    let e = written in
+    (rw e (all_bits-thinned c.args.k c.args.b.now c.requires.0), ap length e ∙ length-thinned c.args.k c.args.b.now ∙ c.requires.1.0)
+
+pub returns : goal.returns
+unfolding thinned_by
+returns c =
+    let written : take (length c.args.b.now) c.thin.new.out ≡ thinned c.args.k c.args.b.now = front c.args.b.now _ _ c.args.k _ (power c.args.k c.requires.1.1).0 c.thin.ensures in
+    c.within_round.ensures ∙ ap (λ (v : List ℕ). from_to 0 10 (thinned_at c.args.format v)) (written)

@@ -1,0 +1,23 @@
+-- `cyclic::division::small_step` meets its contract: the divisor under the mask is the divisor times the bit that goes out.
+-- Assumes nothing.
+use Rattle.std.proofs.Common.{◌+◌, ◌-◌, ◌*◌, ◌/◌, ◌^◌, ◌<◌, ap, ◌∙◌, arith, pow_mono, rules}
+use lib.Bits.{bit_xor}
+use Rattle.bits.proofs.Mask.{masked}
+use Rattle.cyclic.proofs.Machine.Out.{out_bit, step_v-times}
+use Rattle.cyclic.proofs.division.small_step.Goals as goal
+
+pub overflow_mul-shifted : goal.overflow_mul-shifted
+overflow_mul-shifted c = omega (arith, pow_mono {i = c.args.degree} {j = 62} (omega arith))
+
+pub overflow_add-shifted : goal.overflow_add-shifted
+overflow_add-shifted c = omega (arith, pow_mono {i = c.args.degree} {j = 62} (omega arith))
+
+pub returns : goal.returns
+returns c =
+    let a = c.args in
+    let h = c.requires in
+    let divisor-fits : a.divisor < 2 ^ 64 = search rules in
+    let mask_fits : c.wrapping_sub_u64-mask.result < 2 ^ 64 = search rules in
+    ap (bit_xor (a.s * 2 + a.b))
+    (masked 64 (a.s / 2 ^ (a.degree - 1)) c.wrapping_sub_u64-mask.result a.divisor (out_bit a.degree a.s h.0.0 h.1.0) mask_fits divisor-fits c.wrapping_sub_u64-mask.ensures)
+    ∙ step_v-times a.divisor a.degree a.s a.b h.0.0 h.1.0 h.1.1

@@ -1,0 +1,52 @@
+-- `telegrams::fields::go_through` meets its contract. The loop's invariant: the first bad word is that of the words not yet passed.
+-- Assumes nothing.
+use mathlib.Core.Path.{◌≡◌, sym, ap, ◌∙◌}
+use mathlib.Core.Bool.{Bool, not}
+use Prim.Native.Nat.{◌*◌, ◌-◌}
+use native.Mathlib.Omega.{arith}
+use lib.ListN.{drop}
+use Rattle.bits.proofs.AllBits.{all_bits-drop}
+use Rattle.bits.proofs.Left.{left_all, left_fewer, left-found, left-none}
+use Rattle.bits.proofs.Parts.{front_below}
+use Rattle.words.specs.Words.{in_table, is_word}
+use Rattle.telegrams.specs.Worded.{is_bad}
+use Rattle.telegrams.proofs.FirstBad.{none_whole, found_not_word}
+use Rattle.telegrams.proofs.fields.go_through.Goals as goal
+
+-- whether the next word is bad, by what was found of it
+next : (c : tie.After-in-table invariant-loop decreases-loop) (t : Bool) → c.in_table.result ≡ t →
+    let l = c.before.before.before in
+    is_bad l.before.before.args.s.now l.loop.at ≡ not t
+unfolding is_bad is_word
+next c t e = ap not (sym (c.in_table.ensures ∙ ap in_table c.before.number.ensures) ∙ e)
+
+pub loop-at-init : goal.loop-at-init
+loop-at-init c = left_all _ _
+
+pub number-word-requires : goal.number-word-requires
+number-word-requires c = (omega arith, (omega arith, c.requires.t))
+
+pub overflow_cast-word : goal.overflow_cast-word
+overflow_cast-word c =
+    let s = c.args.s.now in
+    let place = 11 * c.loop-at.at in
+    omega (arith, c.number-word.ensures, front_below 11 (drop place s) (all_bits-drop place s c.requires.t))
+
+pub not_word-requires : goal.not_word-requires
+not_word-requires c =
+    record {
+      t = c.requires.t;
+      index_in_bounds = omega arith;
+    }
+
+pub returns-then-not-in_table : goal.returns-then-not-in_table
+returns-then-not-in_table c =
+    c.not_word.ensures
+    ∙ sym (found_not_word _ _ _ (left-found c.loop-at.invariant (omega arith) (next (goal.at.returns-then-not-in_table c).After-in_table _ c.if-not-in_table.true)))
+
+pub loop-at-preserved : goal.loop-at-preserved
+loop-at-preserved c =
+    left_fewer c.loop-at.invariant (omega arith) (next (goal.at.loop-at-preserved c).After-in_table _ c.if-not-in_table.false)
+
+pub returns : goal.returns
+returns c = sym (none_whole _ _ (left-none c.loop-at.invariant (omega arith)))

@@ -1,0 +1,16 @@
+-- `telegrams::fields::shaping_bits` meets its contract. Assumes nothing.
+use native.Mathlib.Omega.{arith}
+use Rattle.telegrams.specs.Fields.{shaping_of}
+use Rattle.telegrams.proofs.fields.shaping_bits.Goals as goal
+
+pub field-requires : goal.field-requires
+field-requires c =
+    record {
+      t = c.requires.t;
+      format_in_bounds = c.requires.format_in_bounds;
+      k_le_top = (omega arith, (omega arith, omega arith));
+    }
+
+pub returns : goal.returns
+unfolding shaping_of
+returns c = c.field.ensures
