@@ -1,5 +1,5 @@
 //! Links target/staticlib/libbalise.a of the repository, which
-//! `rt staticlib balise` writes.
+//! `tools/archives balise` writes.
 
 use std::env;
 use std::path::Path;
@@ -14,7 +14,7 @@ fn main() {
         println!("cargo::rustc-link-lib=static=balise");
     } else {
         println!(
-            "cargo::error={} is missing: run rt staticlib balise first",
+            "cargo::error={} is missing: run tools/archives balise first",
             archive.display()
         );
     }

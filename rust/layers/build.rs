@@ -1,5 +1,5 @@
 //! Links target/staticlib/liblayers.a of the repository, which
-//! `rt staticlib layers` writes.
+//! `tools/archives layers` writes.
 
 use std::env;
 use std::path::Path;
@@ -14,7 +14,7 @@ fn main() {
         println!("cargo::rustc-link-lib=static=layers");
     } else {
         println!(
-            "cargo::error={} is missing: run rt staticlib layers first",
+            "cargo::error={} is missing: run tools/archives layers first",
             archive.display()
         );
     }
