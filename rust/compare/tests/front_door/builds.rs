@@ -72,7 +72,7 @@ fn a_touched_file_costs_nothing_and_a_changed_one_a_build() {
     for (file, text) in [
         ("crates/texts/src/file.rt", "other"),
         ("crates/texts/specs/File.antt", "a file more"),
-        ("crates/texts/proofs/a/Proof.antt", "a file more"),
+        ("crates/texts/proofs/a/Answers.antt", "a file more"),
     ] {
         scratch.write(file, text);
         // with an old time, as of an archive that was unpacked
@@ -84,7 +84,7 @@ fn a_touched_file_costs_nothing_and_a_changed_one_a_build() {
         assert_checks(&scratch, &ALL);
         assert_checks(&scratch, &[]);
     }
-    scratch.shell("sed -i 's/^check_telegram:.*/check_telegram: texts libc/' crates.txt");
+    scratch.shell("sed -i 's/^check_telegram:.*/check_telegram: texts words/' crates.txt");
     assert_checks(&scratch, &ALL);
     scratch.shell("rm crates/texts/specs/File.antt");
     assert_checks(&scratch, &ALL);
@@ -95,7 +95,7 @@ fn a_touched_file_costs_nothing_and_a_changed_one_a_build() {
 fn a_change_undone_costs_nothing() {
     let scratch = Scratch::built();
     scratch.shell("cp crates/texts/src/file.rt kept; echo more >>crates/texts/src/file.rt");
-    scratch.hook("echo \"rt: $name NOT PROVED (exit 1, 0 s)\"; exit 1");
+    scratch.hook("echo logic=not-proved; exit 1");
     assert_no_answer(&scratch.balise(&["check"], b""), "not proved: texts;");
     scratch.shell("mv kept crates/texts/src/file.rt");
     assert_answer(
@@ -152,7 +152,7 @@ fn a_build_that_fails() {
     let check = || scratch.balise(&["check"], proper.as_bytes());
     let log = scratch.path("target/balise-check_telegram.log");
     let see = format!("; see {}\n", log.display());
-    scratch.hook("echo \"rt: $name NOT PROVED (exit 1, 3 s)\"; exit 1");
+    scratch.hook("echo logic=not-proved; exit 1");
     assert_no_answer(&check(), &format!("balise: not proved: texts{see}"));
     scratch.hook("echo 'rt: crates.txt: line 1: expected NAME'; exit 2");
     assert_no_answer(
@@ -160,9 +160,7 @@ fn a_build_that_fails() {
         &format!("the toolchain could not build check_telegram{see}"),
     );
     // proved, and the stored example differs
-    scratch.hook(
-        "[ $name = texts ] || { echo \"rt: $name proved, and its run FAILED (0 s)\"; exit 1; }",
-    );
+    scratch.hook("[ $step = check ] || echo other");
     let ran = check();
     assert_no_answer(
         &ran,

@@ -36,28 +36,30 @@ const TOOLS: [&str; 21] = [
 ];
 
 /// `rt` of the scratch folder. As the real one it does not prove again what has
-/// not changed, and does not look at the program. A file `hook` beside it is run
-/// for each crate that is proved.
+/// not changed, and makes a program when it is run. A file `hook` beside it is run
+/// for each crate that is proved, and for each program that is run: `$step` is
+/// `check` or `run`.
 const RT: &str = r#"#!/bin/sh
 PATH=$PATH:/usr/bin:/bin
 here=$(cd "$(dirname "$0")" && pwd)
-case $1 in
+step=$1
+name=$2
+case $step in
     version) echo "kit of the tests" ;;
     check)
-        shift
-        mkdir -p target/bin target/stamp
-        for name in "$@"; do
-            sum=$(find crates.txt crates -type f ! -name stdin | sort | xargs cat | cksum)
-            if [ "$(cat "target/stamp/$name" 2>/dev/null)" = "$sum" ]; then
-                echo "rt: $name proved (unchanged since it was last proved)"
-                continue
-            fi
-            echo "$name" >>"$here/proved"
-            [ ! -f "$here/hook" ] || . "$here/hook"
-            [ ! -f "$here/programs/$name" ] || install "$here/programs/$name" target/bin
-            echo "$sum" >"target/stamp/$name"
-            echo "rt: $name proved (0 s)"
-        done
+        mkdir -p target/stamp
+        sum=$(find crates.txt crates -type f ! -name stdin ! -path '*/out/*' | sort | xargs cat | cksum)
+        if [ "$(cat "target/stamp/$name" 2>/dev/null)" = "$sum" ] && { [ "$name" = texts ] || [ -x "crates/$name/out/$name" ]; }; then
+            exit 0
+        fi
+        echo "$name" >>"$here/proved"
+        [ ! -f "$here/hook" ] || . "$here/hook"
+        echo "$sum" >"target/stamp/$name"
+        ;;
+    run)
+        [ ! -f "$here/hook" ] || . "$here/hook"
+        mkdir -p "crates/$name/out"
+        install "$here/programs/$name" "crates/$name/out"
         ;;
 esac
 "#;
@@ -92,7 +94,7 @@ impl Scratch {
         install(&repository().join("balise"), &root.join("balise"));
         let page = "docs/BENCH.md";
         fs::copy(repository().join(page), root.join(page)).expect(page);
-        let mut crates = String::from("texts: io libc # characters\n");
+        let mut crates = String::from("texts: # characters\n");
         let programs = PROGRAMS.map(|program| program.name);
         for name in programs {
             crates += &format!("{name}: texts\n");
