@@ -1,5 +1,5 @@
 /* The proved calls of crates/balise, for C and C++. Link libbalise.a, which
- * `rt staticlib balise` writes to target/staticlib/ (x86-64, System V calling
+ * `tools/archives balise` writes to target/staticlib/ (x86-64, System V calling
  * convention); it needs memcpy and memset of the C library:
  *   cc -Iinclude prog.c target/staticlib/libbalise.a -o prog
  *

@@ -42,7 +42,7 @@
 //! # Ok::<(), Refusal>(())
 //! ```
 //!
-//! That the declarations are those of crates/balise/src/lib.rt, the fields those
+//! That the declarations are those of crates/balise_c/src/lib.rt, the fields those
 //! of crates/balise/specs/AsNumber.antt, and the numbers of the refusals those of
 //! crates/refusals/specs/Refused.antt, is tested and not proved. include/balise.h
 //! declares the same for C.

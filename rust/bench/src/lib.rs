@@ -105,7 +105,7 @@ pub fn figures(log: Option<&str>) {
     println!();
     println!("```");
     println!("mkdir -p rust/target && rt prove > rust/target/prove.log");
-    println!("rt staticlib layers && rt staticlib balise");
+    println!("tools/archives");
     println!("cd rust && cargo run --release --offline -p bench -- target/prove.log > ../docs/PERFORMANCE.md");
     println!("```");
     println!();

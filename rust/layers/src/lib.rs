@@ -1,5 +1,5 @@
 //! The proved layers, called through their static library. Nothing checks the
-//! declarations here against crates/layers/src/lib.rt. Each function tests what
+//! declarations here against crates/layers_c/src/lib.rt. Each function tests what
 //! the `requires` there asks, and panics where that does not hold. A format
 //! crosses as `long`.
 
