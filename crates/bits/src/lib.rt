@@ -1,5 +1,7 @@
 // Bits, one to a byte, earliest sent first: the tests that every byte is 0 or 1 and that two slices are the same, the
 // number of some consecutive bits, the bits of a number, and the flip.
+#![tactic(auto)]
+
 ghost use Rattle.std.specs.Prelude.{◌≡◌, ◌+◌, ◌≤◌, ◌<◌, ◌++◌, T, length, take, drop};
 ghost use Rattle.bits.specs.Bits.{all_bits, same, number_of, bits_of, flip};
 

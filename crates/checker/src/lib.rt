@@ -1,5 +1,7 @@
 // Checking a telegram (document 01, "When the bench says no": refusals 1, 2 and 6 to 12, the lowest that applies;
 // document 02, No. 13).
+#![tactic(auto)]
+
 ghost use Rattle.std.specs.Prelude.{◌≡◌, T, length};
 ghost use Rattle.bits.specs.Bits.{all_bits};
 ghost use Rattle.formats.specs.Numbers.{numbers_of};

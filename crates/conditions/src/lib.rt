@@ -1,5 +1,7 @@
 // Conditions 2, 3 and 4 of a proper telegram (document 01, "Four conditions of a proper telegram").
 // A telegram is b(n-1) to b0, one bit to a byte: b(i) stands at place n-1-i of the slice.
+#![tactic(auto)]
+
 ghost use Rattle.std.specs.Prelude.{◌≡◌, ◌&&◌, T, length};
 ghost use Rattle.bits.specs.Bits.{all_bits};
 ghost use Rattle.formats.specs.Numbers.{numbers_of};

@@ -1,5 +1,7 @@
 // The refusals and their numbers (document 01, "When the bench says no", in its order; 27 is document 02's, No. 11), and what
 // refusals 4 and 9 carry (document 02, No. 13).
+#![tactic(auto)]
+
 ghost use Rattle.std.specs.Prelude.{◌≡◌};
 ghost use Rattle.refusals.specs.Refused.{refusal_number, tried_count, bad_word_in};
 

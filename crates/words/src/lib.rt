@@ -1,5 +1,7 @@
 // The 10-to-11 table (document 01, "Words"; document 02, No. 13): the word of a number, the number of a word, the barred words, and the kind
 // of a word that the table does not have.
+#![tactic(auto)]
+
 ghost use Rattle.std.specs.Prelude.{◌≡◌, ◌<◌};
 ghost use Rattle.words.specs.Table.{table};
 ghost use Rattle.words.specs.BarredOf64.{kind_marked};

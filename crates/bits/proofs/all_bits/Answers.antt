@@ -3,7 +3,6 @@
 use mathlib.Core.Path.{◌≡◌, refl, sym, ap, ◌∙◌}
 use mathlib.Core.Bool.{Bool, true, false, ◌&&◌, and-true}
 use mathlib.Core.List.{List}
-use mathlib.Core.Logic.{⊎_elim}
 use Prim.Native.Nat.{ℕ, ◌+◌, ◌≤◌, ◌<◌, ◌-◌}
 use native.Mathlib.Omega.{arith}
 use borrow.Author.Tests.{ltb-true, ltb-false}
@@ -12,6 +11,7 @@ use lib.ListN.{length, get_or, drop}
 use Rattle.bits.specs.Bits.{all_bits}
 use Rattle.bits.proofs.Rest.{rest_more, rest_done}
 use Rattle.bits.proofs.all_bits.Goals as goal
+use Rattle.bits.proofs.all_bits.Goals.{then-most-s, else-most-s}
 
 step : (s : List ℕ) (i : ℕ) → i < length s → all_bits (drop i s) ≡ ltb (get_or s i 0) 2 && all_bits (drop (i + 1) s)
 unfolding all_bits
@@ -50,10 +50,10 @@ loop-i-preserved c =
     let rest = all_bits (drop (i + 1) s) in (
       omega arith,
       c.loop-i.invariant.1 ∙ ap (λ (b : Bool). ltb most 2 && b) (step s i c.loop-i-test.true)
-          ∙ ⊎_elim
-          (λ w. second_larger most (get_or s i 0) rest w.0.taken ∙ ap (λ (m : ℕ). ltb m 2 && rest) (sym w.2))
-          (λ w. first_larger most (get_or s i 0) rest w.0.left ∙ ap (λ (m : ℕ). ltb m 2 && rest) (sym w.1))
-          c.if-most-s.branch,
+          ∙ elim c.if-most-s.branch [
+          | then-most-s w ↦ second_larger most (get_or s i 0) rest w.if-most-s.true ∙ ap (λ (m : ℕ). ltb m 2 && rest) (sym w.most-is)
+          | else-most-s w ↦ first_larger most (get_or s i 0) rest w.if-most-s.false ∙ ap (λ (m : ℕ). ltb m 2 && rest) (sym w.most-is)
+          ],
     )
 
 pub returns : goal.returns

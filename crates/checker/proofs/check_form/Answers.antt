@@ -1,12 +1,15 @@
 -- `checker::check_form` meets its contract: a verdict for each test reached. Assumes nothing.
-use borrow.Author.Tests.{not-false, eq-eqb}
+use borrow.Author.Tests.{eq-eqb}
 use mathlib.Core.Path.{◌≡◌, sym, ap, ◌∙◌}
 use mathlib.Core.Bool.{true}
+use mathlib.Core.List.{List}
 use Prim.Native.Nat.{ℕ}
 use native.Mathlib.Omega.{arith}
-use lib.ListN.{drop}
+use lib.Dec.{T}
+use lib.ListN.{length, drop}
 use Rattle.bits.specs.Bits.{all_bits, same}
 use Rattle.bits.proofs.Tests.{is_true, holds}
+use Rattle.formats.specs.declared.format.Format.{Format}
 use Rattle.formats.specs.Numbers.{numbers_of}
 use Rattle.formats.proofs.Sizes.{words_fill}
 use Rattle.words.specs.declared.BadWord.{BadWord}
@@ -26,36 +29,28 @@ use Rattle.checker.proofs.WellFormed.{is_well_formed}
 use Rattle.checker.proofs.check_form.Goals as goal
 
 -- what the tests from divisibility on decide
-answered : (c : goal.Start) (v : Verdict Refusal) → Decides (drop 2 (check_table c.args.format c.args.telegram.now)) v
-    → answer_by Refused (Proper c.args.format) v ≡ check_as c.args.format c.args.telegram.now
+answered : (format : Format) (telegram : List ℕ) → T (all_bits telegram) × (length telegram ≡ (numbers_of format).n) → (v : Verdict Refusal)
+    → Decides (drop 2 (check_table format telegram)) v → answer_by Refused (Proper format) v ≡ check_as format telegram
 unfolding check_table
-answered c v d = sym (decided _ _ v (passed (eq-eqb _ _ c.requires.1) (passed (is_true (all_bits c.args.telegram.now) c.requires.0) d)))
-
--- what the words tell, at the format's count
-told : (c : goal.After-go_through)
-    → let a = c.args in
-    c.go_through.result ≡ worded (numbers_of a.format).words a.telegram.now
-told c =
-    let a = c.args in
-    c.go_through.ensures ∙ ap (λ (k : ℕ). worded k a.telegram.now) c.words.ensures
+answered format telegram h v d = sym (decided _ _ v (passed (eq-eqb _ _ h.1) (passed (is_true (all_bits telegram) h.0) d)))
 
 pub returns-then-not-divisible : goal.returns-then-not-divisible
 unfolding check_table
-returns-then-not-divisible c = answered (goal.at.returns-then-not-divisible c).Start _ (failed (sym c.divisible.ensures ∙ c.if-not-divisible.true))
+returns-then-not-divisible c = answered _ _ c.requires _ (failed (sym c.divisible.ensures ∙ c.if-not-divisible.true))
 
 pub returns-then-not-unturned : goal.returns-then-not-unturned
 unfolding check_table
 returns-then-not-unturned c =
-    let divides : let a = c.args in divisible (numbers_of a.format) a.telegram.now ≡ true = sym c.divisible.ensures ∙ not-false _ c.if-not-divisible.false in
-    answered (goal.at.returns-then-not-unturned c).Start _ (passed (divides) (failed (sym c.unturned.ensures ∙ c.if-not-unturned.true)))
+    let divides : divisible (numbers_of c.args.format) c.args.telegram.now ≡ true = sym c.divisible.ensures ∙ c.if-not-divisible.false in
+    answered _ _ c.requires _ (passed divides (failed (sym c.unturned.ensures ∙ c.if-not-unturned.true)))
 
 pub returns-then-not-has_control : goal.returns-then-not-has_control
 unfolding check_table
 returns-then-not-has_control c =
-    let divides : let a = c.args in divisible (numbers_of a.format) a.telegram.now ≡ true = sym c.divisible.ensures ∙ not-false _ c.if-not-divisible.false in
-    let turned_0 : let a = c.args in unturned (numbers_of a.format) a.telegram.now ≡ true = sym c.unturned.ensures ∙ not-false _ c.if-not-unturned.false in
-    answered (goal.at.returns-then-not-has_control c).Start _
-    (passed (divides) (passed (turned_0) (failed (sym c.has_control.ensures ∙ c.if-not-has_control.true))))
+    let divides : divisible (numbers_of c.args.format) c.args.telegram.now ≡ true = sym c.divisible.ensures ∙ c.if-not-divisible.false in
+    let turned_0 : unturned (numbers_of c.args.format) c.args.telegram.now ≡ true = sym c.unturned.ensures ∙ c.if-not-unturned.false in
+    answered _ _ c.requires _
+    (passed divides (passed turned_0 (failed (sym c.has_control.ensures ∙ c.if-not-has_control.true))))
 
 pub go_through-requires : goal.go_through-requires
 go_through-requires c =
@@ -67,24 +62,28 @@ go_through-requires c =
 pub returns-in-NotWord : goal.returns-in-NotWord
 unfolding check_table
 returns-in-NotWord c =
-    let divides : let a = c.args in divisible (numbers_of a.format) a.telegram.now ≡ true = sym c.divisible.ensures ∙ not-false _ c.if-not-divisible.false in
-    let turned_0 : let a = c.args in unturned (numbers_of a.format) a.telegram.now ≡ true = sym c.unturned.ensures ∙ not-false _ c.if-not-unturned.false in
-    let controlled : let a = c.args in same (control_of (numbers_of a.format) a.telegram.now) control ≡ true = sym c.has_control.ensures ∙ not-false _ c.if-not-has_control.false in
-    let (some, is) = not_word_some _ _ c.in-NotWord.bad (sym (told (goal.at.returns-in-NotWord c).After-go_through) ∙ c.in-NotWord.is) in
+    let divides : divisible (numbers_of c.args.format) c.args.telegram.now ≡ true = sym c.divisible.ensures ∙ c.if-not-divisible.false in
+    let turned_0 : unturned (numbers_of c.args.format) c.args.telegram.now ≡ true = sym c.unturned.ensures ∙ c.if-not-unturned.false in
+    let controlled : same (control_of (numbers_of c.args.format) c.args.telegram.now) control ≡ true = sym c.has_control.ensures ∙ c.if-not-has_control.false in
+    let told : c.go_through.result ≡ worded (numbers_of c.args.format).words c.args.telegram.now =
+        c.go_through.ensures ∙ ap (λ (k : ℕ). worded k c.args.telegram.now) c.words.ensures in
+    let (some, is) = not_word_some _ _ c.in-NotWord.bad (sym told ∙ c.in-NotWord.is) in
     ap (λ (bad : BadWord). Refused (NotWord bad)) (sym is)
-    ∙ answered (goal.at.returns-in-NotWord c).Start _ (passed (divides) (passed (turned_0) (passed (controlled) (failed some))))
+    ∙ answered _ _ c.requires _ (passed divides (passed turned_0 (passed controlled (failed some))))
 
 pub check_conditions-requires : goal.check_conditions-requires
 check_conditions-requires c =
-    let divides : let a = c.args in divisible (numbers_of a.format) a.telegram.now ≡ true = sym c.divisible.ensures ∙ not-false _ c.if-not-divisible.false in
-    let turned_0 : let a = c.args in unturned (numbers_of a.format) a.telegram.now ≡ true = sym c.unturned.ensures ∙ not-false _ c.if-not-unturned.false in
-    let controlled : let a = c.args in same (control_of (numbers_of a.format) a.telegram.now) control ≡ true = sym c.has_control.ensures ∙ not-false _ c.if-not-has_control.false in
+    let divides : divisible (numbers_of c.args.format) c.args.telegram.now ≡ true = sym c.divisible.ensures ∙ c.if-not-divisible.false in
+    let turned_0 : unturned (numbers_of c.args.format) c.args.telegram.now ≡ true = sym c.unturned.ensures ∙ c.if-not-unturned.false in
+    let controlled : same (control_of (numbers_of c.args.format) c.args.telegram.now) control ≡ true = sym c.has_control.ensures ∙ c.if-not-has_control.false in
+    let told : c.go_through.result ≡ worded (numbers_of c.args.format).words c.args.telegram.now =
+        c.go_through.ensures ∙ ap (λ (k : ℕ). worded k c.args.telegram.now) c.words.ensures in
     is_well_formed c.args.format c.args.telegram.now
     record {
       size = c.requires.1;
       bits = c.requires.0;
-      divides = holds _ (divides);
-      turn = holds _ (turned_0);
-      has_control = holds _ (controlled);
+      divides = holds _ divides;
+      turn = holds _ turned_0;
+      has_control = holds _ controlled;
     }
-    (holds _ (whole_all _ _ (sym (told (goal.at.check_conditions-requires c).After-go_through) ∙ c.in_default.is)))
+    (holds _ (whole_all _ _ (sym told ∙ c.in_default.is)))

@@ -26,10 +26,6 @@ none : (w : ℕ) (l : List ℕ) (i : ℕ) → length l ≤ i → among w (drop i
 unfolding among
 none w l i h = ap (among w) (rest_done l i h)
 
--- TODO no goal of this name: array-read-if1
-array-read-if1 : tie.Need-array-read-if1 invariant-loop decreases-loop
-array-read-if1 c = search rules
-
 pub loop-i-init : goal.loop-i-init
 unfolding in_group20
 loop-i-init c = (omega arith, refl)

@@ -1,7 +1,7 @@
 -- `conditions::off_step::within` meets its contract. The loop's invariant: the places before p have passed. Assumes nothing.
 use mathlib.Core.Path.{◌≡◌, sym, ap₂, ◌∙◌}
 use mathlib.Core.List.{List}
-use Prim.Native.Nat.{ℕ, ◌-◌}
+use Prim.Native.Nat.{ℕ}
 use native.Mathlib.Omega.{arith}
 use lib.Dec.{leb}
 use Rattle.formats.specs.declared.format.Format.{Format}

@@ -1,9 +1,8 @@
 -- `conditions::repeating::apart` meets its contract. The loop's invariant: the places counted, and those where the rest of the two
 -- stretches differ, which only adds to them. Assumes nothing.
 use mathlib.Core.Path.{◌≡◌, sym, ap, ap₂, ◌∙◌}
-use mathlib.Core.Logic.{⊎_elim}
 use mathlib.Core.List.{List}
-use Prim.Native.Nat.{ℕ, ◌+◌, ◌-◌, ◌%◌, ◌≤◌, ◌<◌}
+use Prim.Native.Nat.{ℕ, ◌+◌, ◌%◌, ◌≤◌, ◌<◌}
 use native.Mathlib.Nat.{mod-lt}
 use native.Mathlib.Omega.{arith}
 use borrow.Author.Tests.{le-leb}
@@ -15,6 +14,7 @@ use Rattle.conditions.specs.Conditions.{apart}
 use Rattle.conditions.proofs.Round.{around-mod, around_more, around_done}
 use Rattle.conditions.proofs.repeating.apart.Invariants.{left, differ, agree}
 use Rattle.conditions.proofs.repeating.apart.Goals as goal
+use Rattle.conditions.proofs.repeating.apart.Goals.{then-b-at, else-b-at}
 
 more : (i at other : ℕ) (b : List ℕ) → i < 22 → at < length b → other < length b
     → left i at other b ≡ count_differing (eqb (get_or b at 0) (get_or b other 0)) (left (i + 1) ((at + 1) % length b) ((other + 1) % length b) b)
@@ -53,10 +53,10 @@ loop-i-preserved c =
     let places : left (i + 1) c.place_after-at.result c.place_after-other-in-loop-i.result b ≡ rest =
     ap₂ (λ (u v : ℕ). left (i + 1) u v b) c.place_after-at.ensures c.place_after-other-in-loop-i.ensures in
     let counted : (c.if-b-at.count ≤ i + 1) × (c.loop-i.count + left i at other b ≡ c.if-b-at.count + rest) =
-    ⊎_elim
-    (λ w. (omega arith, omega (arith, differ (get_or b at 0) (get_or b other 0) rest w.0.taken)))
-    (λ w. (omega arith, omega (arith, agree (get_or b at 0) (get_or b other 0) rest w.0.left)))
-    c.if-b-at.branch in (
+    elim c.if-b-at.branch [
+      then-b-at w ↦ (omega arith, omega (arith, differ (get_or b at 0) (get_or b other 0) rest w.if-b-at.true))
+    | else-b-at w ↦ (omega arith, omega (arith, agree (get_or b at 0) (get_or b other 0) rest w.if-b-at.false))
+    ] in (
       omega arith,
       counted.0,
       rw c.place_after-at.ensures (mod-lt (at + 1) (omega arith)),

@@ -1,9 +1,7 @@
 -- `conditions::repeating::each_shifted_apart` meets its contract. The loop's invariant: the words before j have passed. Assumes nothing.
 use mathlib.Core.Path.{sym, ◌∙◌}
-use Prim.Native.Nat.{◌-◌}
 use native.Mathlib.Omega.{arith}
 use Rattle.formats.specs.Numbers.{long}
-use Rattle.conditions.specs.Conditions.{shifted_apart}
 use Rattle.conditions.proofs.Each.{passed_none, passed_more, passed_fails, passed_done}
 use Rattle.conditions.proofs.repeating.each_shifted_apart.Invariants.{test}
 use Rattle.conditions.proofs.repeating.each_shifted_apart.Goals as goal

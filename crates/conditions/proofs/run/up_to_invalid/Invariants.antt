@@ -1,7 +1,7 @@
 -- `conditions::run::up_to_invalid` meets its contract. The loop's invariant: the words from `left` on are valid, so that those before decide.
 -- Assumes nothing.
 use mathlib.Core.Path.{◌≡◌}
-use Prim.Native.Nat.{◌-◌, ◌≤◌}
+use Prim.Native.Nat.{◌≤◌}
 use Rattle.conditions.specs.UpToInvalid.{up_to_invalid}
 use Rattle.conditions.proofs.run.up_to_invalid.Given as goal
 

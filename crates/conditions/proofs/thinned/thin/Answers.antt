@@ -32,37 +32,34 @@ loop-j-init c =
 
 pub bounds-b-at : goal.bounds-b-at
 bounds-b-at c =
-    let l : tie.At-loop invariant-loop decreases-loop = c.before.before in
-    let n : ℕ = length l.before.before.before.args.b.now in
-    let step : ℕ = l.before.before.before.args.step in
-    let gone_on : c.place_after-at.result ≡ n - 1 - (l.loop.j - 1) * step % n =
-        let j : l.loop.j ≡ l.loop.j - 1 + 1 = omega arith in
-        c.place_after-at.ensures ∙ ap (λ (x : ℕ). (x + step) % n) (l.loop.inv.2 ∙ ap (λ (x : ℕ). n - 1 - x * step % n) j)
-        ∙ place_on n (l.loop.j - 1) step (omega arith) (omega arith) in
+    let b : List ℕ = c.args.b.now in
+    let n : ℕ = length b in
+    let step : ℕ = c.args.step in
+    let j : ℕ = c.loop-j.j in
+    let gone_on : c.place_after-at.result ≡ n - 1 - (j - 1) * step % n =
+        let count : j ≡ j - 1 + 1 = omega arith in
+        c.place_after-at.ensures ∙ ap (λ (x : ℕ). (x + step) % n) (c.loop-j.invariant.2 ∙ ap (λ (x : ℕ). n - 1 - x * step % n) count)
+        ∙ place_on n (j - 1) step (omega arith) (omega arith) in
     omega (arith, gone_on)
 
 pub loop-j-preserved : goal.loop-j-preserved
 loop-j-preserved c =
-    let l : tie.At-loop invariant-loop decreases-loop = c.before.before in
-    let n : ℕ = length l.before.before.before.args.b.now in
-    let step : ℕ = l.before.before.before.args.step in
-    let gone_on : c.place_after-at.result ≡ n - 1 - (l.loop.j - 1) * step % n =
-        let j : l.loop.j ≡ l.loop.j - 1 + 1 = omega arith in
-        c.place_after-at.ensures ∙ ap (λ (x : ℕ). (x + step) % n) (l.loop.inv.2 ∙ ap (λ (x : ℕ). n - 1 - x * step % n) j)
-        ∙ place_on n (l.loop.j - 1) step (omega arith) (omega arith) in
-    let at = l in
-    let a = at.before.before.before.args in
-    let b = a.b.now in
-    let n = length b in
-    let j = at.loop.j in
+    let b : List ℕ = c.args.b.now in
+    let n : ℕ = length b in
+    let step : ℕ = c.args.step in
+    let j : ℕ = c.loop-j.j in
+    let gone_on : c.place_after-at.result ≡ n - 1 - (j - 1) * step % n =
+        let count : j ≡ j - 1 + 1 = omega arith in
+        c.place_after-at.ensures ∙ ap (λ (x : ℕ). (x + step) % n) (c.loop-j.invariant.2 ∙ ap (λ (x : ℕ). n - 1 - x * step % n) count)
+        ∙ place_on n (j - 1) step (omega arith) (omega arith) in
     let place : n - 1 - (j - 1) ≡ n - j = omega arith in
     let next : n - j + 1 ≡ n - (j - 1) = omega arith in (
       refl,
       omega arith,
       gone_on,
       rw (place, ← next)
-          (written_more at.loop.inv.3 (omega arith)
-          (more j a.step b (omega arith) ∙ ap (λ (x : ℕ). get_or b x 0 ∷ thinned_below (j - 1) a.step b) (sym (gone_on)))),
+          (written_more c.loop-j.invariant.3 (omega arith)
+          (more j step b (omega arith) ∙ ap (λ (x : ℕ). get_or b x 0 ∷ thinned_below (j - 1) step b) (sym gone_on))),
     )
 
 pub shape_of-out : goal.shape_of-out

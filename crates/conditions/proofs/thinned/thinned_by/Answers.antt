@@ -31,7 +31,7 @@ thin-requires c =
     (omega arith, (omega arith, omega arith))
 
 pub slice_bounds-v-end : goal.slice_bounds-v-end
-slice_bounds-v-end c = omega (arith, c.thin.auto.1.1.0, telegram_between c.args.format)
+slice_bounds-v-end c = omega (arith, telegram_between c.args.format)
 
 pub slice_bounds-within_round-end : goal.slice_bounds-within_round-end
 slice_bounds-within_round-end c =

@@ -1,6 +1,5 @@
 -- `conditions::thinned::within` meets its contract. The loop's invariant: the values before k have passed. Assumes nothing.
 use mathlib.Core.Path.{sym, ◌∙◌}
-use Prim.Native.Nat.{◌-◌}
 use native.Mathlib.Omega.{arith}
 use Rattle.conditions.specs.Conditions.{thinned_by, thinned_within}
 use Rattle.conditions.proofs.Each.{passed_none, passed_more, passed_fails, passed_done}

@@ -24,15 +24,6 @@ tested format v words e =
     each_same (thinned_at format v) (test v words) 0 11 λ a. ap (λ (k : ℕ). test v k a) (sym e)
 
 
--- so the answer is that of the definition
-pub round : (w : tie.After-words invariant-loop decreases-loop)
-    → from_to 0 10 (thinned_at w.before.before.args.format w.before.before.args.v.now)
-    ≡ from_to 0 10 (test w.before.before.args.v.now w.words.result)
-round w =
-    let a = w.before.before.args in
-    tested a.format a.v.now w.words.result w.words.ensures
-
-
 abbrev pub invariant-loop-a : goal.invariant-loop-a
 invariant-loop-a l = Passed (test l.v l.words) (from_to 0 10 (test l.v l.words)) l.a 11
 

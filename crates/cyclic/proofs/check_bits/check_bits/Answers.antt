@@ -13,7 +13,7 @@ use Rattle.cyclic.proofs.check_bits.check_bits.Goals as goal
 
 pub remainder_from_fg-rest-requires : goal.remainder_from_fg-rest-requires
 unfolding all_bits
-remainder_from_fg-rest-requires c = (c.remainder_fg-above.ensures.result_bound, tt)
+remainder_from_fg-rest-requires c = record { start_bound = c.remainder_fg-above.ensures.result_bound; t = tt }
 
 pub returns : goal.returns
 unfolding check_bits
@@ -24,7 +24,7 @@ returns c =
     let bits = c.args.bits.now in
     let after = bits ++ replicate 85 0 in
     let rest =
-    c.remainder_from_fg-rest.ensures.0
+    c.remainder_from_fg-rest.ensures.result_value
     ∙ ap (λ (r : List _). number_of (remainder_from (drop 1 d) r (replicate 85 0)))
     (remainder_list m bits c.requires c.remainder_fg-above.ensures.result_value)
     ∙ ap number_of (sym (remainder-append d bits (replicate 85 0)))

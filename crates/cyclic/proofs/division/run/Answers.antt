@@ -1,5 +1,5 @@
 -- `cyclic::division::run` meets its contract. The loop's invariant: the run over all bits is the run over the rest. Assumes nothing.
-use Rattle.std.proofs.Common.{◌-◌, arith}
+use Rattle.std.proofs.Common.{arith}
 use Rattle.bits.proofs.AllBits.{all_bits-get_or}
 use Rattle.cyclic.proofs.Machine.Running.{running_none, running_more, running_done}
 use Rattle.cyclic.proofs.division.run.Goals as goal

@@ -19,5 +19,5 @@ returns c =
     let divisor-fits : a.divisor < 2 ^ 64 = search rules in
     let mask_fits : c.wrapping_sub_u64-mask.result < 2 ^ 64 = search rules in
     ap (bit_xor (a.s * 2 + a.b))
-    (masked 64 (a.s / 2 ^ (a.degree - 1)) c.wrapping_sub_u64-mask.result a.divisor (out_bit a.degree a.s h.0.0 h.1.0) mask_fits divisor-fits c.wrapping_sub_u64-mask.ensures)
-    ∙ step_v-times a.divisor a.degree a.s a.b h.0.0 h.1.0 h.1.1
+    (masked 64 (a.s / 2 ^ (a.degree - 1)) c.wrapping_sub_u64-mask.result a.divisor (out_bit a.degree a.s h.degree_nonzero.0 h.s_bound) mask_fits divisor-fits c.wrapping_sub_u64-mask.ensures.value)
+    ∙ step_v-times a.divisor a.degree a.s a.b h.degree_nonzero.0 h.s_bound h.b_bound

@@ -25,9 +25,9 @@ returns c =
     let high-divisor-fits : a.divisor.high < 2 ^ 64 = search rules in
     let low-divisor-fits : a.divisor.low < 2 ^ 64 = search rules in
     let mask_fits : mask < 2 ^ 64 = search rules in
-    let place : out ≡ value_of a.s / 2 ^ (k - 1) = high_out a.s.high a.s.low k low_fits h.0.0 in
-    let bit : out < 2 = rw place (out_bit k (value_of a.s) (omega arith) h.1.0) in
+    let place : out ≡ value_of a.s / 2 ^ (k - 1) = high_out a.s.high a.s.low k low_fits h.lt_degree.0 in
+    let bit : out < 2 = rw place (out_bit k (value_of a.s) (omega arith) h.s_bound) in
     ap₂ (λ (x y : ℕ). bit_xor (a.s.high * 2 + a.s.low / 2 ^ 63) x * 2 ^ 64 + bit_xor (a.s.low * 2 ^ 1 % 2 ^ 64 + a.b) y)
-    (masked 64 out mask a.divisor.high bit mask_fits high-divisor-fits c.wrapping_sub_u64-mask.ensures)
-    (masked 64 out mask a.divisor.low bit mask_fits low-divisor-fits c.wrapping_sub_u64-mask.ensures)
-    ∙ step_words a.s.high a.s.low a.divisor.high a.divisor.low a.b k out low_fits low-divisor-fits h.1.1 h.0.0 h.1.0 place bit
+    (masked 64 out mask a.divisor.high bit mask_fits high-divisor-fits c.wrapping_sub_u64-mask.ensures.value)
+    (masked 64 out mask a.divisor.low bit mask_fits low-divisor-fits c.wrapping_sub_u64-mask.ensures.value)
+    ∙ step_words a.s.high a.s.low a.divisor.high a.divisor.low a.b k out low_fits low-divisor-fits h.b_bound h.lt_degree.0 h.s_bound place bit

@@ -12,12 +12,12 @@ pub returns-then-rest-ne0 : goal.returns-then-rest-ne0
 returns-then-rest-ne0 c =
     let g = c.remainder_g-rest in
     let some : value_of g.result ≡ 0 → ⊥ = λ e. c.if-rest-ne0.true (omega arith) in
-    sym (divisible_number c.args.format c.args.bits.now c.requires (value_of g.result) g.ensures.0
+    sym (divisible_number c.args.format c.args.bits.now c.requires (value_of g.result) g.ensures.result_value
     ∙ ne_eqb (value_of g.result) 0 some)
 
 pub returns : goal.returns
 returns c =
     let g = c.remainder_g-rest in
     let none : g.result.high ≡ 0 = c.if-rest-ne0.false in
-    sym (divisible_number c.args.format c.args.bits.now c.requires (value_of g.result) g.ensures.0
+    sym (divisible_number c.args.format c.args.bits.now c.requires (value_of g.result) g.ensures.result_value
     ∙ ap (λ (x : ℕ). eqb x 0) (low_alone g.result.high g.result.low none))

@@ -9,6 +9,6 @@ pub returns : goal.returns
 returns c =
     let a = c.args in
     let start = empty_start (facts_of a.format).fg_degree c.zero-start.ensures a.bits.now in record {
-      result_value = c.remainder_from_fg.ensures.0 ∙ ap number_of start;
-      result_bound = c.remainder_from_fg.ensures.1;
+      result_value = c.remainder_from_fg.ensures.result_value ∙ ap number_of start;
+      result_bound = c.remainder_from_fg.ensures.result_bound;
     }

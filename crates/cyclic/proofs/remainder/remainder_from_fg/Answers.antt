@@ -10,11 +10,11 @@ pub run-requires : goal.run-requires
 run-requires c =
     let degree = divisor_degree (facts_of c.args.format).fg_degree c.fg-divisor.ensures in record {
       lt_degree = (lit< tt, lit< tt);
-      division = record { degree = degree; fits = c.requires.0; bits = c.requires.1 };
+      division = record { degree = degree; fits = c.requires.start_bound; bits = c.requires.t };
     }
 
 pub returns : goal.returns
 returns c =
     let a = c.args in
     let from = divided_from (facts_of a.format).fg_degree c.fg-divisor.ensures (bits_of 85 (value_of a.start)) a.bits.now in
-    (c.run.ensures.result_value ∙ from, c.run.ensures.result_bound)
+    record { result_value = c.run.ensures.result_value ∙ from; result_bound = c.run.ensures.result_bound }
