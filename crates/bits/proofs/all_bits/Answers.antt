@@ -3,7 +3,7 @@
 use mathlib.Core.Path.{◌≡◌, refl, sym, ap, ◌∙◌}
 use mathlib.Core.Bool.{Bool, true, false, ◌&&◌, and-true}
 use mathlib.Core.List.{List}
-use Prim.Native.Nat.{ℕ, ◌+◌, ◌≤◌, ◌<◌, ◌-◌}
+use Prim.Native.Nat.{ℕ, ◌+◌, ◌≤◌, ◌<◌}
 use native.Mathlib.Omega.{arith}
 use borrow.Author.Tests.{ltb-true, ltb-false}
 use lib.Dec.{ltb}
@@ -51,8 +51,8 @@ loop-i-preserved c =
       omega arith,
       c.loop-i.invariant.1 ∙ ap (λ (b : Bool). ltb most 2 && b) (step s i c.loop-i-test.true)
           ∙ elim c.if-most-s.branch [
-          | then-most-s w ↦ second_larger most (get_or s i 0) rest w.if-most-s.true ∙ ap (λ (m : ℕ). ltb m 2 && rest) (sym w.most-is)
-          | else-most-s w ↦ first_larger most (get_or s i 0) rest w.if-most-s.false ∙ ap (λ (m : ℕ). ltb m 2 && rest) (sym w.most-is)
+            | then-most-s w ↦ second_larger most (get_or s i 0) rest w.if-most-s.true ∙ ap (λ (m : ℕ). ltb m 2 && rest) (sym w.most-is)
+            | else-most-s w ↦ first_larger most (get_or s i 0) rest w.if-most-s.false ∙ ap (λ (m : ℕ). ltb m 2 && rest) (sym w.most-is)
           ],
     )
 
