@@ -1,4 +1,6 @@
 // Encoding a block of user bits (document 01, "Search, reading and place", and "When the bench says no": refusals 1 to 4).
+#![tactic(auto)]
+
 ghost use Rattle.std.specs.Prelude.{◌≡◌, List, ℕ, length};
 ghost use Rattle.refusals.specs.Outcome.{outcome};
 ghost use Rattle.encoder.specs.Encoding.{first_pair, encode_of};

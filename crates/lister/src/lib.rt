@@ -1,4 +1,6 @@
 // The proper pairs of a block, one after the other (document 02, No. 9).
+#![tactic(auto)]
+
 ghost use Rattle.std.specs.Prelude.{◌≡◌};
 ghost use Rattle.refusals.specs.Outcome.{outcome};
 ghost use Rattle.maker.specs.Makes.{InOrder};

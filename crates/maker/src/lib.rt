@@ -1,4 +1,6 @@
 // Making a telegram from a block of user bits, B and esb, without a search (document 02, No. 11 and No. 13).
+#![tactic(auto)]
+
 ghost use Rattle.std.specs.Prelude.{◌≡◌};
 ghost use Rattle.refusals.specs.Outcome.{outcome};
 ghost use Rattle.maker.specs.Making.{make_of};

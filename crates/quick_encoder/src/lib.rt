@@ -1,4 +1,6 @@
 // Encoding a block of user bits by the quick search (document 02, No. 7): the answers, the bytes and the counts of encoder::encode.
+#![tactic(auto)]
+
 ghost use Rattle.std.specs.Prelude.{◌≡◌};
 ghost use Rattle.refusals.specs.Outcome.{outcome};
 ghost use Rattle.encoder.specs.Encoding.{encode_of};

@@ -1,4 +1,6 @@
 // Scrambling and its undoing by a 32-bit register, and the sum in the first block (document 01, "Scrambling").
+#![tactic(auto)]
+
 mod blocks;
 
 ghost use Rattle.std.specs.Prelude.{◌≡◌, ◌/◌, ◌<◌, ◌≤◌, T, ◌++◌, length, drop};

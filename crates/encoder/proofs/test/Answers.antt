@@ -2,7 +2,6 @@
 use mathlib.Core.Path.{◌≡◌, sym, ◌∙◌}
 use mathlib.Core.Bool.{true}
 use native.Mathlib.Omega.{arith}
-use borrow.Author.Tests.{not-false}
 use lib.ListN.{length}
 use Rattle.bits.specs.Bits.{all_bits}
 use Rattle.bits.proofs.Tests.{holds}
@@ -27,12 +26,12 @@ pub returns-then-room-telegram_bits : goal.returns-then-room-telegram_bits
 returns-then-room-telegram_bits c out room =
     let format : Format = c.of_length-format.result in
     let size : length c.args.block.now ≡ (numbers_of (format)).m = omega arith in
-    let all : all_bits c.args.block.now ≡ true = sym c.all_bits.ensures ∙ not-false _ c.if-not-all_bits.false in
+    let all : all_bits c.args.block.now ≡ true = sym c.all_bits.ensures ∙ c.if-not-all_bits.false in
     room_refused (format) c.args.block.now out (size) (all) (omega arith)
 
 pub returns : goal.returns
 returns c out room =
     let format : Format = c.of_length-format.result in
     let size : length c.args.block.now ≡ (numbers_of (format)).m = omega arith in
-    let all : all_bits c.args.block.now ≡ true = sym c.all_bits.ensures ∙ not-false _ c.if-not-all_bits.false in
-    record { (goal.at.returns c).Else-not-all_bits = holds _ (all); size = size; room = omega arith }
+    let all : all_bits c.args.block.now ≡ true = sym c.all_bits.ensures ∙ c.if-not-all_bits.false in
+    record { bits = holds _ (all); size = size; room = omega arith }

@@ -2,7 +2,6 @@
 use mathlib.Core.Path.{◌≡◌, sym, ◌∙◌}
 use mathlib.Core.Bool.{true}
 use native.Mathlib.Omega.{arith}
-use borrow.Author.Tests.{not-false}
 use lib.ListN.{length}
 use Rattle.bits.specs.Bits.{all_bits}
 use Rattle.formats.specs.declared.format.Format.{Format}
@@ -29,7 +28,7 @@ pub returns-then-not-is_pair : goal.returns-then-not-is_pair
 returns-then-not-is_pair c =
     let format : Format = c.of_length-format.result in
     let size : length c.args.block.now ≡ (numbers_of (format)).m = omega arith in
-    let all : all_bits c.args.block.now ≡ true = sym c.all_bits.ensures ∙ not-false _ c.if-not-all_bits.false in
+    let all : all_bits c.args.block.now ≡ true = sym c.all_bits.ensures ∙ c.if-not-all_bits.false in
     let a = c.args in
     pair_refused (format) a.block.now a.b a.esb a.room (size) (all)
     (sym c.is_pair.ensures ∙ c.if-not-is_pair.true)
@@ -38,8 +37,8 @@ pub returns-then-room-telegram_bits : goal.returns-then-room-telegram_bits
 returns-then-room-telegram_bits c =
     let format : Format = c.of_length-format.result in
     let size : length c.args.block.now ≡ (numbers_of (format)).m = omega arith in
-    let all : all_bits c.args.block.now ≡ true = sym c.all_bits.ensures ∙ not-false _ c.if-not-all_bits.false in
-    let pair : let a = c.args in is_pair a.b a.esb ≡ true = sym c.is_pair.ensures ∙ not-false _ c.if-not-is_pair.false in
+    let all : all_bits c.args.block.now ≡ true = sym c.all_bits.ensures ∙ c.if-not-all_bits.false in
+    let pair : let a = c.args in is_pair a.b a.esb ≡ true = sym c.is_pair.ensures ∙ c.if-not-is_pair.false in
     let a = c.args in
     room_refused (format) a.block.now a.b a.esb a.room (size) (all) (pair) (omega arith)
 
@@ -47,7 +46,7 @@ pub returns : goal.returns
 returns c =
     let format : Format = c.of_length-format.result in
     let size : length c.args.block.now ≡ (numbers_of (format)).m = omega arith in
-    let all : all_bits c.args.block.now ≡ true = sym c.all_bits.ensures ∙ not-false _ c.if-not-all_bits.false in
-    let pair : let a = c.args in is_pair a.b a.esb ≡ true = sym c.is_pair.ensures ∙ not-false _ c.if-not-is_pair.false in
+    let all : all_bits c.args.block.now ≡ true = sym c.all_bits.ensures ∙ c.if-not-all_bits.false in
+    let pair : let a = c.args in is_pair a.b a.esb ≡ true = sym c.is_pair.ensures ∙ c.if-not-is_pair.false in
     let a = c.args in
     tests_clean (format) a.block.now a.b a.esb a.room (size) (all) (pair) (omega arith)

@@ -16,7 +16,6 @@ use Rattle.telegrams.specs.Telegram.{telegram_of}
 use Rattle.telegrams.specs.Worded.{worded}
 use Rattle.telegrams.proofs.FirstBad.{whole_all, not_word_some}
 use Rattle.telegrams.proofs.Made.{length_made, bits_made}
-use Rattle.telegrams.proofs.Buffers.Fronts.{copied_whole}
 use Rattle.maker.specs.declared.Made.TheVariants.{Telegram, Refused}
 use Rattle.maker.proofs.Steps.{word_refused, telegram_made}
 use Rattle.maker.proofs.write_telegram.Goals as goal
@@ -52,10 +51,10 @@ go_through-requires c =
         ap (λ (n : ℕ). take n (array)) c.telegram_bits-n.ensures
         ∙ front_is (telegram) _ (array) (numbers_of c.args.format).n (size) c.make.ensures in
     let a = c.args in
-    rw (stands) (
-      bits_made (numbers_of a.format) (facts_of a.format) (sizes_of a.format) a.block.now a.b a.esb,
-      omega (arith, size, words_fill a.format, c.words-words.ensures),
-    )
+    rw (stands) (record {
+      t = bits_made (numbers_of a.format) (facts_of a.format) (sizes_of a.format) a.block.now a.b a.esb;
+      k_in_bounds = omega (arith, size, words_fill a.format, c.words-words.ensures);
+    })
 
 pub returns-in-NotWord : goal.returns-in-NotWord
 returns-in-NotWord c =
@@ -68,10 +67,9 @@ returns-in-NotWord c =
         ap (λ (n : ℕ). take n (array)) c.telegram_bits-n.ensures
         ∙ front_is (telegram) _ (array) (numbers_of c.args.format).n (size) c.make.ensures in
     let told : c.go_through.result ≡ worded (numbers_of c.args.format).words (telegram) = c.go_through.ensures ∙ ap₂ worded c.words-words.ensures (stands) in
-    let s = (goal.at.returns-in-NotWord c).After-telegram_bits-n in
-    let a = s.args in
+    let a = c.args in
     let (some, is) = not_word_some _ _ c.in-NotWord.bad (sym (told) ∙ c.in-NotWord.is) in
-    word_refused a.format a.block.now a.b a.esb a.output.now s.pre some
+    word_refused a.format a.block.now a.b a.esb a.output.now c.requires some
     ∙ ap (λ (bad : BadWord). outcome (Refused (NotWord bad)) a.output.now) is
 
 pub slice_bounds-telegram-end-2 : goal.slice_bounds-telegram-end-2
@@ -109,13 +107,12 @@ returns c =
         ap (λ (n : ℕ). take n (array)) c.telegram_bits-n.ensures
         ∙ front_is (telegram) _ (array) (numbers_of c.args.format).n (size) c.make.ensures in
     let told : c.go_through.result ≡ worded (numbers_of c.args.format).words (telegram) = c.go_through.ensures ∙ ap₂ worded c.words-words.ensures (stands) in
-    let s = (goal.at.returns c).After-telegram_bits-n in
-    let a = s.args in
+    let a = c.args in
     let F = numbers_of a.format in
     let n = c.telegram_bits-n.result in
     let written : c.copy.new.out ≡ telegram ++ drop F.n a.output.now =
-    copied_whole (take n (array)) a.output.now c.copy.new.out c.copy.ensures.copied
+    c.copy.ensures.copied
     ∙ ap (λ (t : List ℕ). t ++ drop (length t) a.output.now) (stands)
     ∙ ap (λ (i : ℕ). telegram ++ drop i a.output.now) (size) in
-    telegram_made a.format a.block.now a.b a.esb a.output.now s.pre (whole_all _ _ (sym (told) ∙ c.in_default.is))
+    telegram_made a.format a.block.now a.b a.esb a.output.now c.requires (whole_all _ _ (sym (told) ∙ c.in_default.is))
     ∙ ap (outcome (Telegram a.format)) (sym written)

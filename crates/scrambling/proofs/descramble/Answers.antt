@@ -1,6 +1,6 @@
 -- `scrambling::descramble` meets its contract. The loop's invariant: the first i descrambled bits are written, and the rest come from the register and
 -- the bits not yet passed. Assumes nothing.
-use Rattle.std.proofs.Common.{ℕ, ◌-◌, ◌++◌, drop, sym, ap, ◌∙◌, le_antisymm, arith}
+use Rattle.std.proofs.Common.{ℕ, ◌++◌, drop, sym, ap, ◌∙◌, le_antisymm, arith}
 use Rattle.bits.proofs.AllBits.{all_bits-get_or}
 use Rattle.bits.proofs.Writer.{written_none, written_more, written_done}
 use Rattle.scrambling.specs.Scrambling.{descrambled, descrambled_from}
@@ -10,9 +10,6 @@ use Rattle.scrambling.proofs.descramble.Goals as goal
 pub loop-i-init : goal.loop-i-init
 unfolding descrambled
 loop-i-init c = (omega arith, written_none (ap (λ (r : ℕ). descrambled_from r c.args.block.now) (sym c.new-register.ensures)))
-
-pub overflow_cast-scrambled_bit : goal.overflow_cast-scrambled_bit
-overflow_cast-scrambled_bit c = omega (arith, c.shared_slice_known-in-loop-i-1.given c.loop-i.i)
 
 pub xor_top-user_bit-requires : goal.xor_top-user_bit-requires
 xor_top-user_bit-requires c =

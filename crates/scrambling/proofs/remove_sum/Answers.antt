@@ -25,7 +25,7 @@ number-first-requires c = (omega arith, (omega arith, c.requires.t))
 pub sum_of_blocks-others-requires : goal.sum_of_blocks-others-requires
 sum_of_blocks-others-requires c =
     let block = c.args.block.now in
-    rw (others block) (all_bits-drop 10 block c.requires.t, omega (arith, length-drop 10 block))
+    rw (others block) (record { t = all_bits-drop 10 block c.requires.t; block_len_bound = omega (arith, length-drop 10 block) })
 
 pub overflow_add-first : goal.overflow_add-first
 overflow_add-first c =

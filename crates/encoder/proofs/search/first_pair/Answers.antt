@@ -1,9 +1,9 @@
 -- `encoder::search::first_pair` meets its contract. The invariants of the loops over B and over esb: the pairs before the next have failed, and
 -- within one B its shaped data stands in front of the buffer. The labelled loop has one turn. Assumes nothing.
 use mathlib.Core.Path.{◌≡◌, sym, ap, ◌∙◌}
-use Prim.Native.Nat.{◌+◌, ◌*◌, ◌-◌}
+use Prim.Native.Nat.{◌+◌, ◌*◌, ◌-◌, ◌≤◌}
 use native.Mathlib.Omega.{arith}
-use lib.ListN.{take}
+use lib.ListN.{length, take}
 use lib.Seq.{length-take-le}
 use Rattle.bits.proofs.Left.{left_all, left_fewer, left-found, left-none}
 use Rattle.formats.specs.Numbers.{numbers_of}
@@ -34,31 +34,31 @@ loop-b-init c =
 
 pub slice_bounds-summed-end : goal.slice_bounds-summed-end
 slice_bounds-summed-end c =
-    let s = (goal.at.slice_bounds-summed-end c).At-search in
-    omega (arith, block_within s.args.format s.args.block.now s.pre.1, c.write_summed.auto.1.0)
+    omega (arith, block_within c.args.format c.args.block.now c.requires.block_len, c.write_summed.auto.out)
 
 pub slice_bounds-write_shaped_data-end : goal.slice_bounds-write_shaped_data-end
-slice_bounds-write_shaped_data-end c = sym (length-take-le _ _ (slice_bounds-summed-end (goal.at.slice_bounds-write_shaped_data-end c).In-loop-b))
+slice_bounds-write_shaped_data-end c =
+    let within : length c.args.block.now ≤ length c.write_summed.new.out =
+        omega (arith, block_within c.args.format c.args.block.now c.requires.block_len, c.write_summed.auto.out) in
+    sym (length-take-le _ _ within)
 
 pub write_shaped_data-requires : goal.write_shaped_data-requires
 write_shaped_data-requires c =
-    let s = (goal.at.write_shaped_data-requires c).At-search in
-    let format = s.args.format in
-    let u = s.args.block.now in
+    let format = c.args.format in
+    let u = c.args.block.now in
     let summed = c.write_summed.new.out in record {
-      t = summed_bits format u s.pre.1 _ summed c.write_summed.ensures s.pre.0;
-      summed_len = summed_size format u s.pre.1 _ summed c.write_summed.ensures;
+      t = summed_bits format u c.requires.block_len _ summed c.write_summed.ensures c.requires.t;
+      summed_len = summed_size format u c.requires.block_len _ summed c.write_summed.ensures;
       format_in_bounds = omega (arith, telegram_between format, c.loop-b.invariant.0);
     }
 
 pub loop-esb-init : goal.loop-esb-init
 loop-esb-init c =
-    let s = (goal.at.loop-esb-init c).At-search in
     let b = c.loop-b.b in
     let next : 1024 * b ≡ 1024 * b + 0 = omega arith in (
       record {
-        size = c.write_shaped_data.auto.1.1.1.0 ∙ c.loop-b.invariant.0;
-        front = shaped-front s.args.format s.args.block.now s.pre.1 _ c.write_summed.new.out c.write_summed.ensures
+        size = c.write_shaped_data.auto.telegram ∙ c.loop-b.invariant.0;
+        front = shaped-front c.args.format c.args.block.now c.requires.block_len _ c.write_summed.new.out c.write_summed.ensures
             b c.loop-b.telegram c.write_shaped_data.new.telegram c.write_shaped_data.ensures;
       },
       omega arith,
@@ -74,39 +74,46 @@ complete-requires c =
 
 pub slice_bounds-telegram-end : goal.slice_bounds-telegram-end
 slice_bounds-telegram-end c =
-    let buffer_next : let a = (start (outer c).before).args in Trying a.format a.block.now (outer c).loop.b c.complete.new.telegram = tried-next c.loop-esb.invariant.0 c.loop-esb.esb c.complete.new.telegram c.complete.auto.1.1.1.0 c.complete.ensures in
-    let bits = (outer (goal.at.slice_bounds-telegram-end c).After-complete).before.before.before.before.before in
-    omega (arith, trying_fits (buffer_next), bits.telegram-bits.ensures)
+    let a = c.args in
+    let buffer_next : Trying a.format a.block.now c.loop-b.b c.complete.new.telegram =
+        tried-next c.loop-esb.invariant.0 c.loop-esb.esb c.complete.new.telegram c.complete.auto.telegram c.complete.ensures in
+    omega (arith, trying_fits buffer_next, c.telegram_bits-n.ensures)
 
 pub slice_bounds-passes-end : goal.slice_bounds-passes-end
-slice_bounds-passes-end c = sym (length-take-le _ _ (slice_bounds-telegram-end (goal.at.slice_bounds-passes-end c).After-telegram-in-loop-esb-2-1))
+slice_bounds-passes-end c =
+    let a = c.args in
+    let buffer_next : Trying a.format a.block.now c.loop-b.b c.complete.new.telegram =
+        tried-next c.loop-esb.invariant.0 c.loop-esb.esb c.complete.new.telegram c.complete.auto.telegram c.complete.ensures in
+    let within : c.telegram_bits-n.result ≤ length c.complete.new.telegram =
+        omega (arith, trying_fits buffer_next, c.telegram_bits-n.ensures) in
+    sym (length-take-le _ _ within)
 
 pub passes-requires : goal.passes-requires
 passes-requires c =
-    let telegram-front : let a = (start (outer c).before).args in take (outer c).before.before.before.before.before.telegram-bits.result c.complete.new.telegram ≡ telegram_of (numbers_of a.format) a.block.now (outer c).loop.b c.loop-esb.esb =
-        let bits = (outer c).before.before.before.before.before in
-        tried-telegram c.loop-esb.invariant.0 c.loop-esb.esb c.complete.new.telegram c.complete.auto.1.1.1.0 c.complete.ensures
-        bits.telegram-bits.result bits.telegram-bits.ensures in
-    let a = (start (outer (goal.at.passes-requires c).After-complete).before).args in
+    let a = c.args in
+    let telegram_front : take c.telegram_bits-n.result c.complete.new.telegram ≡ telegram_of (numbers_of a.format) a.block.now c.loop-b.b c.loop-esb.esb =
+        tried-telegram c.loop-esb.invariant.0 c.loop-esb.esb c.complete.new.telegram c.complete.auto.telegram c.complete.ensures
+        c.telegram_bits-n.result c.telegram_bits-n.ensures in
     let F = numbers_of a.format in
-    let b = (outer (goal.at.passes-requires c).After-complete).loop.b in
-    let esb = c.loop-esb.esb in
     let A = facts_of a.format in
     let S = sizes_of a.format in
-    rw (telegram-front) (bits_made F A S a.block.now b esb, length_made F A S a.block.now b esb)
+    rw telegram_front (record {
+      t = bits_made F A S a.block.now c.loop-b.b c.loop-esb.esb;
+      telegram_len = length_made F A S a.block.now c.loop-b.b c.loop-esb.esb;
+    })
 
 pub loop-esb-preserved : goal.loop-esb-preserved
 loop-esb-preserved c =
-    let buffer_next : let a = (start (outer c).before).args in Trying a.format a.block.now (outer c).loop.b c.complete.new.telegram = tried-next c.loop-esb.invariant.0 c.loop-esb.esb c.complete.new.telegram c.complete.auto.1.1.1.0 c.complete.ensures in
-    let telegram-front : let a = (start (outer c).before).args in take (outer c).before.before.before.before.before.telegram-bits.result c.complete.new.telegram ≡ telegram_of (numbers_of a.format) a.block.now (outer c).loop.b c.loop-esb.esb =
-        let bits = (outer c).before.before.before.before.before in
-        tried-telegram c.loop-esb.invariant.0 c.loop-esb.esb c.complete.new.telegram c.complete.auto.1.1.1.0 c.complete.ensures
-        bits.telegram-bits.result bits.telegram-bits.ensures in
-    let tested : let a = (start (outer c.before.before.before).before).args in passes a.format a.block.now (1024 * (outer c.before.before.before).loop.b + c.loop-esb.esb) ≡ c.passes.result =
-        let a = (start (outer c.before.before.before).before).args in
-        sym (c.passes.ensures ∙ ap (made_proper a.format) (telegram-front)
-        ∙ pair_passes a.format a.block.now (outer c.before.before.before).loop.b c.loop-esb.esb (omega arith)) in
-    let b = (outer (goal.at.loop-esb-preserved c).After-complete).loop.b in
+    let a = c.args in
+    let buffer_next : Trying a.format a.block.now c.loop-b.b c.complete.new.telegram =
+        tried-next c.loop-esb.invariant.0 c.loop-esb.esb c.complete.new.telegram c.complete.auto.telegram c.complete.ensures in
+    let telegram_front : take c.telegram_bits-n.result c.complete.new.telegram ≡ telegram_of (numbers_of a.format) a.block.now c.loop-b.b c.loop-esb.esb =
+        tried-telegram c.loop-esb.invariant.0 c.loop-esb.esb c.complete.new.telegram c.complete.auto.telegram c.complete.ensures
+        c.telegram_bits-n.result c.telegram_bits-n.ensures in
+    let tested : passes a.format a.block.now (1024 * c.loop-b.b + c.loop-esb.esb) ≡ c.passes.result =
+        sym (c.passes.ensures ∙ ap (made_proper a.format) telegram_front
+        ∙ pair_passes a.format a.block.now c.loop-b.b c.loop-esb.esb (omega arith)) in
+    let b = c.loop-b.b in
     let esb = c.loop-esb.esb in
     let next : 1024 * b + esb + 1 ≡ 1024 * b + (esb + 1) = omega arith in (
       buffer_next,
@@ -122,18 +129,15 @@ loop-b-preserved c =
 
 pub returns-then-passes : goal.returns-then-passes
 returns-then-passes c =
-    let telegram-front : let a = (start (outer c).before).args in take (outer c).before.before.before.before.before.telegram-bits.result c.complete.new.telegram ≡ telegram_of (numbers_of a.format) a.block.now (outer c).loop.b c.loop-esb.esb =
-        let bits = (outer c).before.before.before.before.before in
-        tried-telegram c.loop-esb.invariant.0 c.loop-esb.esb c.complete.new.telegram c.complete.auto.1.1.1.0 c.complete.ensures
-        bits.telegram-bits.result bits.telegram-bits.ensures in
-    let tested : let a = (start (outer c.before.before.before).before).args in passes a.format a.block.now (1024 * (outer c.before.before.before).loop.b + c.loop-esb.esb) ≡ c.passes.result =
-        let a = (start (outer c.before.before.before).before).args in
-        sym (c.passes.ensures ∙ ap (made_proper a.format) (telegram-front)
-        ∙ pair_passes a.format a.block.now (outer c.before.before.before).loop.b c.loop-esb.esb (omega arith)) in
-    let b = (outer (goal.at.returns-then-passes c).After-complete).loop.b in
-    let esb = c.loop-esb.esb in
+    let a = c.args in
+    let telegram_front : take c.telegram_bits-n.result c.complete.new.telegram ≡ telegram_of (numbers_of a.format) a.block.now c.loop-b.b c.loop-esb.esb =
+        tried-telegram c.loop-esb.invariant.0 c.loop-esb.esb c.complete.new.telegram c.complete.auto.telegram c.complete.ensures
+        c.telegram_bits-n.result c.telegram_bits-n.ensures in
+    let tested : passes a.format a.block.now (1024 * c.loop-b.b + c.loop-esb.esb) ≡ c.passes.result =
+        sym (c.passes.ensures ∙ ap (made_proper a.format) telegram_front
+        ∙ pair_passes a.format a.block.now c.loop-b.b c.loop-esb.esb (omega arith)) in
     sym (ap pair_of (left-found c.loop-esb.invariant.2 (omega arith) (tested ∙ c.if-passes.true))
-    ∙ pair_searched b esb (omega arith))
+    ∙ pair_searched c.loop-b.b c.loop-esb.esb (omega arith))
 
 pub returns-after-loop-b : goal.returns-after-loop-b
 returns-after-loop-b c = sym (ap pair_of (left-none c.loop-b.invariant.1 (omega arith)))

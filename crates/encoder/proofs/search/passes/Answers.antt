@@ -33,15 +33,18 @@ pub all_words-requires : goal.all_words-requires
 all_words-requires c =
     let last : 110 ≤ length c.args.telegram.now = omega (arith, sizes_of c.args.format) in
     let t = c.args.telegram.now in
-    rw (lent_is (length t - 110) t) (all_bits-drop (length t - 110) t c.requires.t, omega (arith, length-drop (length t - 110) t, last))
+    rw (lent_is (length t - 110) t) (record {
+      t = all_bits-drop (length t - 110) t c.requires.t;
+      k_in_bounds = omega (arith, length-drop (length t - 110) t, last);
+    })
 
 pub returns-then-not-all_words : goal.returns-then-not-all_words
 returns-then-not-all_words c =
     sym (tested c.args.format c.args.telegram.now false c.requires.telegram_len
-    (sym call.words_in_table.ensures ∙ c.if-not-all_words.true))
+    (sym c.all_words.ensures ∙ c.if-not-all_words.true))
 
 pub returns : goal.returns
 returns c =
     c.conditions.ensures
     ∙ sym (tested c.args.format c.args.telegram.now true c.requires.telegram_len
-    (sym call.words_in_table.ensures ∙ c.if-not-all_words.false))
+    (sym c.all_words.ensures ∙ c.if-not-all_words.false))

@@ -19,7 +19,7 @@ returns c =
     let d = take (n - 110) a.telegram.now in
     let w = settings a.b a.esb in
     let rest = drop (n - 85) a.telegram.now in record {
-      result_value = c.Tail-of.ensures ∙ ap (λ (l : List ℕ). w ++ l) c.settle-check.ensures.result_value;
+      result_value = c.tail_of.ensures ∙ ap (λ (l : List ℕ). w ++ l) c.settle-check.ensures.result_value;
       telegram_unchanged = front_is d (w ++ rest) _ (n - 110) (length-take-le (n - 110) a.telegram.now (omega (arith, c.requires.format_in_bounds)))
           (c.settle-check.ensures.telegram_after ∙ append_assoc d w rest);
     }

@@ -16,7 +16,7 @@ returns-then-not-all_words c =
     let shaped_in : List ℕ = take ((numbers_of c.args.format).n - 110) c.args.telegram.now in
     let data_size : length (shaped_in) ≡ (numbers_of c.args.format).n - 110 = length-take-le ((numbers_of c.args.format).n - 110) c.args.telegram.now (omega (arith, c.requires.format_in_bounds)) in
     record {
-      value = sym (words_decide c.args.format (shaped_in) (tail_bits c.args.tail) (data_size) false (sym words.words_in_table.ensures ∙ c.if-not-all_words.true));
+      value = sym (words_decide c.args.format (shaped_in) (tail_bits c.args.tail) (data_size) false (sym c.all_words.ensures ∙ c.if-not-all_words.true));
       telegram_unchanged = refl;
     }
 
@@ -24,7 +24,7 @@ pub returns : goal.returns
 returns c =
     let shaped_in : List ℕ = take ((numbers_of c.args.format).n - 110) c.args.telegram.now in
     let data_size : length (shaped_in) ≡ (numbers_of c.args.format).n - 110 = length-take-le ((numbers_of c.args.format).n - 110) c.args.telegram.now (omega (arith, c.requires.format_in_bounds)) in
-    let all = sym words.words_in_table.ensures ∙ c.if-not-all_words.false in record {
+    let all = sym c.all_words.ensures ∙ c.if-not-all_words.false in record {
       value = c.meets_conditions.ensures.value ∙ sym (words_decide c.args.format (shaped_in) (tail_bits c.args.tail) (data_size) true all);
       telegram_unchanged = c.meets_conditions.ensures.telegram_unchanged;
     }

@@ -26,70 +26,68 @@ in_front : (format : Format) (n : ℕ) (d old t : List ℕ) → n ≡ (numbers_o
 in_front format n d old t n_is size e =
     front_is d (drop (11 * blocks (numbers_of format)) old) t (n - 110) (omega (arith, (sizes_of format).n_is)) e
 
-kept : (c : goal.After-write_shaped_data)
-    → take ((numbers_of c.args.format).n - 110) c.write_shaped_data.new.telegram ≡ shaped_of
-kept c =
-    in_front c.args.format _ (shaped_of) _ _ refl (shaped_size) c.write_shaped_data.ensures
-
 pub returns-then-not-in_table : goal.returns-then-not-in_table
 returns-then-not-in_table c =
-    let shaped_of : List ℕ = let a = c.args in shaped (blocks (numbers_of a.format)) (scrambled a.b a.summed.now) in
-    let shaped_size : length (shaped_of) ≡ 11 * blocks (numbers_of c.args.format) = let a = c.args in length-shaped (blocks (numbers_of a.format)) (scrambled a.b a.summed.now) in
     let a = c.args in
+    let shaped_of : List ℕ = shaped (blocks (numbers_of a.format)) (scrambled a.b a.summed.now) in
+    let shaped_size : length shaped_of ≡ 11 * blocks (numbers_of a.format) = length-shaped (blocks (numbers_of a.format)) (scrambled a.b a.summed.now) in
     let absent = sym c.in_table.ensures ∙ c.if-not-in_table.true in
-    sym (ap shaping_at (shaping-none a.format (shaped_of) a.b a.esb (omega (arith, c.requires.b_bound))
-    λ e below. first_word_drops a.format (shaped_of) a.b e (shaped_size) c.requires.b_bound.0 absent))
+    sym (ap shaping_at (shaping-none a.format shaped_of a.b a.esb (omega (arith, c.requires.b_bound))
+    λ e below. first_word_drops a.format shaped_of a.b e shaped_size c.requires.b_bound.0 absent))
 
 pub overflow_sub-at : goal.overflow_sub-at
 overflow_sub-at c = omega (arith, (sizes_of c.args.format).n_is)
 
 pub slice_bounds-within-end-2 : goal.slice_bounds-within-end-2
 slice_bounds-within-end-2 c =
-    let shaped_of : List ℕ = let a = c.args in shaped (blocks (numbers_of a.format)) (scrambled a.b a.summed.now) in
-    let shaped_size : length (shaped_of) ≡ 11 * blocks (numbers_of c.args.format) = let a = c.args in length-shaped (blocks (numbers_of a.format)) (scrambled a.b a.summed.now) in
+    let a = c.args in
+    let shaped_of : List ℕ = shaped (blocks (numbers_of a.format)) (scrambled a.b a.summed.now) in
+    let shaped_size : length shaped_of ≡ 11 * blocks (numbers_of a.format) = length-shaped (blocks (numbers_of a.format)) (scrambled a.b a.summed.now) in
     let front : take (c.telegram_bits-n.result - 110) c.write_shaped_data.new.telegram ≡ shaped_of =
-        in_front c.args.format c.telegram_bits-n.result (shaped_of) _ _ c.telegram_bits-n.ensures
-        (shaped_size) c.write_shaped_data.ensures in
-    sym (ap length (front) ∙ shaped_size ∙ omega (arith, (sizes_of c.args.format).n_is))
+        in_front a.format c.telegram_bits-n.result shaped_of _ _ c.telegram_bits-n.ensures shaped_size c.write_shaped_data.ensures in
+    sym (ap length front ∙ shaped_size ∙ omega (arith, (sizes_of c.args.format).n_is))
 
 pub within-requires : goal.within-requires
 within-requires c =
-    let shaped_of : List ℕ = let a = c.args in shaped (blocks (numbers_of a.format)) (scrambled a.b a.summed.now) in
-    let shaped_size : length (shaped_of) ≡ 11 * blocks (numbers_of c.args.format) = let a = c.args in length-shaped (blocks (numbers_of a.format)) (scrambled a.b a.summed.now) in
+    let a = c.args in
+    let shaped_of : List ℕ = shaped (blocks (numbers_of a.format)) (scrambled a.b a.summed.now) in
+    let shaped_size : length shaped_of ≡ 11 * blocks (numbers_of a.format) = length-shaped (blocks (numbers_of a.format)) (scrambled a.b a.summed.now) in
     let front : take (c.telegram_bits-n.result - 110) c.write_shaped_data.new.telegram ≡ shaped_of =
-        in_front c.args.format c.telegram_bits-n.result (shaped_of) _ _ c.telegram_bits-n.ensures
-        (shaped_size) c.write_shaped_data.ensures in
-    let a = c.args in (
-      subst (λ (l : List ℕ). T (all_bits l)) (sym (front)) (bits_shaped (blocks (numbers_of a.format)) (scrambled a.b a.summed.now)),
-      ap length (front) ∙ shaped_size,
+        in_front a.format c.telegram_bits-n.result shaped_of _ _ c.telegram_bits-n.ensures shaped_size c.write_shaped_data.ensures in
+    (
+      subst (λ (l : List ℕ). T (all_bits l)) (sym front) (bits_shaped (blocks (numbers_of a.format)) (scrambled a.b a.summed.now)),
+      ap length front ∙ shaped_size,
     )
 
 pub returns-then-not-within : goal.returns-then-not-within
 returns-then-not-within c =
-    let shaped_of : List ℕ = let a = c.args in shaped (blocks (numbers_of a.format)) (scrambled a.b a.summed.now) in
-    let shaped_size : length (shaped_of) ≡ 11 * blocks (numbers_of c.args.format) = let a = c.args in length-shaped (blocks (numbers_of a.format)) (scrambled a.b a.summed.now) in
+    let a = c.args in
+    let shaped_of : List ℕ = shaped (blocks (numbers_of a.format)) (scrambled a.b a.summed.now) in
+    let shaped_size : length shaped_of ≡ 11 * blocks (numbers_of a.format) = length-shaped (blocks (numbers_of a.format)) (scrambled a.b a.summed.now) in
     let front : take (c.telegram_bits-n.result - 110) c.write_shaped_data.new.telegram ≡ shaped_of =
-        in_front c.args.format c.telegram_bits-n.result (shaped_of) _ _ c.telegram_bits-n.ensures
-        (shaped_size) c.write_shaped_data.ensures in
-    let w = (goal.at.returns-then-not-within c).After-slice_known-2-1 in
-    let s = w.before.before.before in
-    let a = s.args in
-    let over = ap (data_within a.format) (sym (front)) ∙ sym c.within.ensures ∙ c.if-not-within.true in
-    sym (ap shaping_at (shaping-none a.format (shaped_of w) a.b a.esb (omega (arith, s.pre.1.1))
-    λ e below. run_drops a.format (shaped_of w) a.b e (shaped_size w) over))
+        in_front a.format c.telegram_bits-n.result shaped_of _ _ c.telegram_bits-n.ensures shaped_size c.write_shaped_data.ensures in
+    let over = ap (data_within a.format) (sym front) ∙ sym c.within.ensures ∙ c.if-not-within.true in
+    sym (ap shaping_at (shaping-none a.format shaped_of a.b a.esb (omega (arith, c.requires.b_bound))
+    λ e below. run_drops a.format shaped_of a.b e shaped_size over))
 
 pub first_shaping-requires : goal.first_shaping-requires
 first_shaping-requires c =
-    let call = (goal.at.first_shaping-requires c).After-slice_known-2-1 in
-    let s = call.before.before.before in
-    let a = s.args in record {
-      format_in_bounds = omega (arith, s.pre.1.0, call.write-shaped-data.kept.1.1.1.0);
-      t = subst (λ (l : List ℕ). T (all_bits l)) (sym (kept call)) (bits_shaped (blocks (numbers_of a.format)) (scrambled a.b a.summed.now));
-      b_bound = s.pre.1.1;
+    let a = c.args in
+    let shaped_of : List ℕ = shaped (blocks (numbers_of a.format)) (scrambled a.b a.summed.now) in
+    let shaped_size : length shaped_of ≡ 11 * blocks (numbers_of a.format) = length-shaped (blocks (numbers_of a.format)) (scrambled a.b a.summed.now) in
+    let kept : take ((numbers_of a.format).n - 110) c.write_shaped_data.new.telegram ≡ shaped_of =
+        in_front a.format _ shaped_of _ _ refl shaped_size c.write_shaped_data.ensures in
+    record {
+      format_in_bounds = omega (arith, c.requires.format_in_bounds, c.write_shaped_data.auto.telegram);
+      t = subst (λ (l : List ℕ). T (all_bits l)) (sym kept) (bits_shaped (blocks (numbers_of a.format)) (scrambled a.b a.summed.now));
+      b_bound = c.requires.b_bound;
     }
 
 pub returns : goal.returns
 returns c =
-    let call = (goal.at.returns c).After-slice_known-2-1 in
-    let a = call.before.before.before.args in
-    c.first_shaping.ensures ∙ ap (λ (d : List ℕ). shaping_at (shaping_from a.format d a.b a.esb)) (kept call)
+    let a = c.args in
+    let shaped_of : List ℕ = shaped (blocks (numbers_of a.format)) (scrambled a.b a.summed.now) in
+    let shaped_size : length shaped_of ≡ 11 * blocks (numbers_of a.format) = length-shaped (blocks (numbers_of a.format)) (scrambled a.b a.summed.now) in
+    let kept : take ((numbers_of a.format).n - 110) c.write_shaped_data.new.telegram ≡ shaped_of =
+        in_front a.format _ shaped_of _ _ refl shaped_size c.write_shaped_data.ensures in
+    c.first_shaping.ensures ∙ ap (λ (d : List ℕ). shaping_at (shaping_from a.format d a.b a.esb)) kept

@@ -17,5 +17,5 @@ returns c =
     let a = c.args in
     let bit : a.bit < 2 = omega arith in
     ap (bit_xor (shifted a.self.state))
-    (masked 32 a.bit c.wrapping_sub_u32-mask.result feedback bit (omega arith) (lit< tt) c.wrapping_sub_u32-mask.ensures)
+    (masked 32 a.bit c.wrapping_sub_u32-mask.result feedback bit (omega arith) (lit< tt) c.wrapping_sub_u32-mask.ensures.value)
     ∙ xor-times (shifted a.self.state) a.bit bit

@@ -2,23 +2,23 @@
 -- Assumes nothing.
 use mathlib.Core.Path.{◌≡◌, sym, ap, ◌∙◌}
 use mathlib.Core.Bool.{Bool, not}
-use Prim.Native.Nat.{◌*◌, ◌-◌}
+use mathlib.Core.List.{List}
+use Prim.Native.Nat.{ℕ, ◌*◌}
 use native.Mathlib.Omega.{arith}
 use lib.ListN.{drop}
+use Rattle.bits.specs.Bits.{number_of}
 use Rattle.bits.proofs.AllBits.{all_bits-drop}
 use Rattle.bits.proofs.Left.{left_all, left_fewer, left-found, left-none}
 use Rattle.bits.proofs.Parts.{front_below}
 use Rattle.words.specs.Words.{in_table, is_word}
-use Rattle.telegrams.specs.Worded.{is_bad}
+use Rattle.telegrams.specs.Worded.{word_at, is_bad}
 use Rattle.telegrams.proofs.FirstBad.{none_whole, found_not_word}
 use Rattle.telegrams.proofs.fields.go_through.Goals as goal
 
 -- whether the next word is bad, by what was found of it
-next : (c : tie.After-in-table invariant-loop decreases-loop) (t : Bool) → c.in_table.result ≡ t →
-    let l = c.before.before.before in
-    is_bad l.before.before.args.s.now l.loop.at ≡ not t
+next : (s : List ℕ) (at word : ℕ) (t : Bool) → word ≡ number_of (word_at s at) → t ≡ in_table word → (u : Bool) → t ≡ u → is_bad s at ≡ not u
 unfolding is_bad is_word
-next c t e = ap not (sym (c.in_table.ensures ∙ ap in_table c.before.number.ensures) ∙ e)
+next s at word t n f u e = ap not (sym (f ∙ ap in_table n) ∙ e)
 
 pub loop-at-init : goal.loop-at-init
 loop-at-init c = left_all _ _
@@ -42,11 +42,11 @@ not_word-requires c =
 pub returns-then-not-in_table : goal.returns-then-not-in_table
 returns-then-not-in_table c =
     c.not_word.ensures
-    ∙ sym (found_not_word _ _ _ (left-found c.loop-at.invariant (omega arith) (next (goal.at.returns-then-not-in_table c).After-in_table _ c.if-not-in_table.true)))
+    ∙ sym (found_not_word _ _ _ (left-found c.loop-at.invariant (omega arith) (next c.args.s.now c.loop-at.at _ _ c.number-word.ensures c.in_table.ensures _ c.if-not-in_table.true)))
 
 pub loop-at-preserved : goal.loop-at-preserved
 loop-at-preserved c =
-    left_fewer c.loop-at.invariant (omega arith) (next (goal.at.loop-at-preserved c).After-in_table _ c.if-not-in_table.false)
+    left_fewer c.loop-at.invariant (omega arith) (next c.args.s.now c.loop-at.at _ _ c.number-word.ensures c.in_table.ensures _ c.if-not-in_table.false)
 
 pub returns : goal.returns
 returns c = sym (none_whole _ _ (left-none c.loop-at.invariant (omega arith)))

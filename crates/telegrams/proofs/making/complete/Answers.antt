@@ -17,12 +17,12 @@ overflow_sub-checked c =
 pub write_check_bits-requires : goal.write_check_bits-requires
 write_check_bits-requires c =
     let last : 85 ≤ c.telegram_bits-checked.result = omega (arith, (sizes_of c.args.format).n_is, c.telegram_bits-checked.ensures) in
-    simp (lent_is, length-drop) (omega (arith, last, c.requires.format_in_bounds, c.settle-register.auto.1.1.1.0, c.telegram_bits-checked.ensures))
+    simp (lent_is, length-drop) (omega (arith, last, c.requires.format_in_bounds, c.settle-register.auto.telegram, c.telegram_bits-checked.ensures))
 
 pub returns : goal.returns
 returns c =
-    let s = (goal.at.returns c).After-telegram_bits-checked in
-    let a = s.args in
-    completed a.format a.telegram.now a.b a.esb s.pre.0 (c.telegram_bits-checked.result - 85) (value_of s.settle.result)
-    s.settle.last.1.1.1.0 c.write_check_bits.new.out (ap (λ (n : ℕ). n - 85) c.telegram_bits-checked.ensures)
-    s.settle.ensures.1.1 s.settle.ensures.0 c.write_check_bits.ensures
+    let a = c.args in
+    let s = c.settle-register in
+    completed a.format a.telegram.now a.b a.esb c.requires.format_in_bounds (c.telegram_bits-checked.result - 85) (value_of s.result)
+    s.new.telegram c.write_check_bits.new.out (ap (λ (n : ℕ). n - 85) c.telegram_bits-checked.ensures)
+    s.ensures.telegram_after s.ensures.result_value c.write_check_bits.ensures

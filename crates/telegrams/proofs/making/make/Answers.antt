@@ -34,7 +34,9 @@ slice_bounds-summed-end c =
     omega (arith, fits)
 
 pub slice_bounds-write_shaped_data-end : goal.slice_bounds-write_shaped_data-end
-slice_bounds-write_shaped_data-end c = sym (length-take-le _ _ (slice_bounds-summed-end (goal.at.slice_bounds-write_shaped_data-end c).After-summed-2-1))
+slice_bounds-write_shaped_data-end c =
+    let fits : length c.args.block.now ≤ long.m = omega (arith, block_between c.args.format) in
+    sym (length-take-le _ _ (omega (arith, fits)))
 
 pub write_shaped_data-requires : goal.write_shaped_data-requires
 write_shaped_data-requires c =
@@ -45,7 +47,11 @@ write_shaped_data-requires c =
         ∙ ap (λ (m : ℕ). with_sum (m / 10) u) c.requires.block_len in
     let u = c.args.block.now in
     let k = blocks (numbers_of c.args.format) in
-    rw (summed) (with_sum_bits k u c.requires.t, (with_sum-length k u (ten) ∙ c.requires.block_len, c.requires.format_in_bounds))
+    rw (summed) (record {
+      t = with_sum_bits k u c.requires.t;
+      summed_len = with_sum-length k u (ten) ∙ c.requires.block_len;
+      format_in_bounds = c.requires.format_in_bounds;
+    })
 
 pub complete-requires : goal.complete-requires
 complete-requires c =

@@ -2,8 +2,8 @@
 -- was, and the first bad word is that of the words not yet passed. Assumes nothing.
 use mathlib.Core.Path.{◌≡◌, refl, sym, ap, ◌∙◌}
 use mathlib.Core.Bool.{not}
-use mathlib.Core.List.{◌++◌}
-use Prim.Native.Nat.{ℕ, ◌+◌, ◌*◌, ◌-◌}
+use mathlib.Core.List.{List, ◌++◌}
+use Prim.Native.Nat.{ℕ, ◌*◌}
 use native.Mathlib.Omega.{arith}
 use lib.ListN.{take, drop, length-drop}
 use Rattle.bits.specs.Bits.{number_of, bits_of}
@@ -15,18 +15,20 @@ use Rattle.bits.proofs.Tests.{fails}
 use Rattle.words.specs.declared.Lookup.{Lookup}
 use Rattle.words.specs.Words.{lookup_of, is_number, is_word, number_in}
 use Rattle.telegrams.specs.Fields.{all_words, unshaped}
-use Rattle.telegrams.specs.Worded.{is_bad}
+use Rattle.telegrams.specs.Worded.{word_at, is_bad}
 use Rattle.telegrams.proofs.Shaping.{block_of_word, length_block}
 use Rattle.telegrams.proofs.FirstBad.{none_whole, found_some, found_not_word}
 use Rattle.telegrams.proofs.Buffers.Fronts.{lent_is, group_more}
 use Rattle.telegrams.proofs.undoing.unshape.Goals as goal
 
+-- what looking the next word up finds
+found_next : (t : List ℕ) (j word : ℕ) (r : Lookup) → word ≡ number_of (word_at t j) → r ≡ lookup_of word → lookup_of (number_of (word_at t j)) ≡ r
+found_next t j word r n f = sym (f ∙ ap lookup_of n)
+
 -- and whether it is bad
-next : (c : tie.After-look-up invariant-loop decreases-loop) →
-    let l = c.before.before.before in
-    is_bad l.before.before.before.args.telegram.now l.loop.j ≡ not (is_number c.look_up.result)
+next : (t : List ℕ) (j : ℕ) (r : Lookup) → lookup_of (number_of (word_at t j)) ≡ r → is_bad t j ≡ not (is_number r)
 unfolding is_bad is_word
-next c = ap (λ (r : Lookup). not (is_number r)) (found c)
+next t j r e = ap (λ (r : Lookup). not (is_number r)) e
 
 pub loop-j-init : goal.loop-j-init
 unfolding over_groups
@@ -54,7 +56,8 @@ shape_of-out-in_default c = c.loop-j.invariant.1
 pub returns-in_default : goal.returns-in_default
 returns-in_default c =
     let a = c.args in
-    let bad = left-found c.loop-j.invariant.2 (omega arith) (next (goal.at.returns-in_default c).After-look_up ∙ ap (λ (r : Lookup). not (is_number r)) c.in_default.is) in record {
+    let found = found_next a.telegram.now c.loop-j.j _ _ c.number-word.ensures c.look_up.ensures in
+    let bad = left-found c.loop-j.invariant.2 (omega arith) (next a.telegram.now c.loop-j.j _ found ∙ ap (λ (r : Lookup). not (is_number r)) c.in_default.is) in record {
       value = c.not_word.ensures ∙ sym (found_not_word _ _ _ bad);
       out_after = λ h. absurd (fails (all_words a.k a.telegram.now) (found_some _ _ _ bad) h);
     }
@@ -65,8 +68,8 @@ write_number-requires c =
 
 pub loop-j-preserved : goal.loop-j-preserved
 loop-j-preserved c =
-    let found : lookup_of (number_of (take 11 (drop (11 * c.loop-j.j) c.args.telegram.now))) ≡ c.look_up.result = sym (c.look_up.ensures ∙ ap lookup_of c.number-word.ensures) in
     let b = c.args.telegram.now in
+    let found = found_next b c.loop-j.j _ _ c.number-word.ensures c.look_up.ensures in
     let k = c.args.k in
     let old = c.args.out.now in
     let j = c.loop-j.j in
@@ -74,7 +77,7 @@ loop-j-preserved c =
     let number : i ≡ number_in (lookup_of (number_of (take 11 (drop (11 * j) b)))) = sym (ap number_in (found ∙ c.in-Number.is)) in (
       omega arith,
       omega arith,
-      left_fewer c.loop-j.invariant.2 (omega arith) (next (goal.at.loop-j-preserved c).After-look_up ∙ ap (λ (r : Lookup). not (is_number r)) c.in-Number.is),
+      left_fewer c.loop-j.invariant.2 (omega arith) (next b j _ found ∙ ap (λ (r : Lookup). not (is_number r)) c.in-Number.is),
       group_more block_of_word 11 10 length_block j b old c.loop-j.out c.write_number.new.out (bits_of 10 i) c.loop-j.invariant.3
           (ap (bits_of 10) number) c.write_number.ensures,
     )

@@ -2,7 +2,7 @@
 -- was, and the first bad word is that of the words not yet passed. Assumes nothing.
 use mathlib.Core.Path.{◌≡◌}
 use mathlib.Core.List.{◌++◌}
-use Prim.Native.Nat.{◌+◌, ◌*◌, ◌-◌, ◌≤◌}
+use Prim.Native.Nat.{◌*◌, ◌-◌, ◌≤◌}
 use lib.ListN.{length, drop}
 use Rattle.bits.specs.Search.{first_of}
 use Rattle.bits.proofs.Left.{Left}

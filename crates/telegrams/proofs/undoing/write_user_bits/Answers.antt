@@ -25,7 +25,11 @@ remove_sum-requires c =
         front_is (descrambled a.b a.scrambled.now) _ _ _ (descrambled-length a.b a.scrambled.now) c.descramble.ensures in
     let a = c.args in
     let size = descrambled-length a.b a.scrambled.now in
-    rw (front) (descrambled_bits a.b a.scrambled.now, (omega (arith, size), omega (arith, size)))
+    rw (front) (record {
+      t = descrambled_bits a.b a.scrambled.now;
+      in_bounds = omega (arith, size);
+      block_len_bound = omega (arith, size);
+    })
 
 pub returns : goal.returns
 returns c =
