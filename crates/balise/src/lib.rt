@@ -1,5 +1,7 @@
 // The public calls for a caller in another language. A call answers one number, the values of its answer packed into the fields
 // that specs/AsNumber.antt gives, and asks nothing of what it is given.
+#![tactic(auto)]
+
 ghost use Rattle.std.specs.Prelude.{◌≡◌};
 ghost use Rattle.encoder.specs.Encoding.{encoded_values, encode_of};
 ghost use Rattle.checker.specs.Checking.{checked_values, check_of};

@@ -1,4 +1,6 @@
 // Searching a capture (document 01, "Search, reading and place", and "When the bench says no").
+#![tactic(auto)]
+
 ghost use Rattle.std.specs.Prelude.{◌≡◌, List, ℕ, ◌≤◌, T, length};
 ghost use Rattle.bits.specs.Bits.{all_bits};
 ghost use Rattle.formats.specs.Numbers.{long, numbers_of};

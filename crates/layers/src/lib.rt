@@ -1,5 +1,7 @@
 // The layers' functions for a caller in another language. Each meets the definition that the function it calls meets.
 // A format is passed as `long`, and a register as two words, the high one first.
+#![tactic(auto)]
+
 ghost use Rattle.std.specs.Prelude.{◌≡◌, List, ◌++◌, ℕ, ◌+◌, ◌/◌, ◌<◌, ◌≤◌, T, length, take, drop};
 ghost use Rattle.bits.specs.Bits.{all_bits, number_of, bits_of, flip};
 ghost use Rattle.formats.specs.Numbers.{f_of, g_of, fg_of};

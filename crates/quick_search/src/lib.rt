@@ -1,5 +1,7 @@
 // Searching a capture by the quick search (document 01, "Search, reading and place", and "When the bench says no"): the answers and the bytes of
 // captures::search and captures::search_read.
+#![tactic(auto)]
+
 ghost use Rattle.std.specs.Prelude.{◌≡◌, ◌≤◌, T, length};
 ghost use Rattle.bits.specs.Bits.{all_bits};
 ghost use Rattle.formats.specs.Numbers.{long};

@@ -1,4 +1,6 @@
 // Reading a window (document 01, "Search, reading and place"): its tests in the order of their numbers, and what it tells.
+#![tactic(auto)]
+
 ghost use Rattle.std.specs.Prelude.{◌≡◌};
 ghost use Rattle.refusals.specs.Outcome.{outcome};
 ghost use Rattle.reader.specs.Reads.{read_by, read_of, read_well_formed_of};

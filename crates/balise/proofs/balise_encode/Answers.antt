@@ -5,4 +5,6 @@ use Rattle.balise.proofs.Answers.{answer_packed}
 use Rattle.balise.proofs.balise_encode.Goals as goal
 
 pub returns : goal.returns
-returns c = answer_packed encoded_sizes encoded_values c.encode-answer.ensures c.encoded.ensures
+returns c =
+    let (answers, writes) = answer_packed encoded_sizes encoded_values c.encode-answer.ensures c.encoded.ensures in
+    record { answers = answers; writes = writes }

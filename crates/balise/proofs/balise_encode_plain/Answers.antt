@@ -5,4 +5,6 @@ use Rattle.balise.proofs.Answers.{answer_packed}
 use Rattle.balise.proofs.balise_encode_plain.Goals as goal
 
 pub returns : goal.returns
-returns c = answer_packed encoded_sizes encoded_values c.encode-plain.ensures c.encoded.ensures
+returns c =
+    let (answers, writes) = answer_packed encoded_sizes encoded_values c.encode-plain.ensures c.encoded.ensures in
+    record { plain_answers = answers; plain_writes = writes }

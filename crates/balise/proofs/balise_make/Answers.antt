@@ -8,4 +8,6 @@ pub made-requires : goal.made-requires
 made-requires c = answer_fits made_sizes made_values c.make-answer.ensures (make_fits _ _ _ _)
 
 pub returns : goal.returns
-returns c = answer_packed made_sizes made_values c.make-answer.ensures c.made.ensures
+returns c =
+    let (answers, writes) = answer_packed made_sizes made_values c.make-answer.ensures c.made.ensures in
+    record { answers = answers; writes = writes }

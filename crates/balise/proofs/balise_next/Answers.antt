@@ -5,4 +5,6 @@ use Rattle.balise.proofs.Answers.{answer_packed}
 use Rattle.balise.proofs.balise_next.Goals as goal
 
 pub returns : goal.returns
-returns c = answer_packed listed_sizes listed_values c.next-answer.ensures c.listed.ensures
+returns c =
+    let (answers, writes) = answer_packed listed_sizes listed_values c.next-answer.ensures c.listed.ensures in
+    record { answers = answers; writes = writes }

@@ -9,4 +9,6 @@ pub read-requires : goal.read-requires
 read-requires c = answer_fits read_sizes read_values c.read-answer.ensures (read_fits Proper _ _)
 
 pub returns : goal.returns
-returns c = answer_packed read_sizes read_values c.read-answer.ensures c.read.ensures
+returns c =
+    let (answers, writes) = answer_packed read_sizes read_values c.read-answer.ensures c.read.ensures in
+    record { answers = answers; writes = writes }

@@ -9,4 +9,6 @@ pub read-requires : goal.read-requires
 read-requires c = answer_fits read_sizes read_values c.read_well_formed-answer.ensures (read_fits WellFormed _ _)
 
 pub returns : goal.returns
-returns c = answer_packed read_sizes read_values c.read_well_formed-answer.ensures c.read.ensures
+returns c =
+    let (answers, writes) = answer_packed read_sizes read_values c.read_well_formed-answer.ensures c.read.ensures in
+    record { answers = answers; writes = writes }

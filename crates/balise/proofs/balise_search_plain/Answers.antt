@@ -9,4 +9,4 @@ pub searched-requires : goal.searched-requires
 searched-requires c = same_fits search_sizes capture_values (sym c.search-plain.ensures) (search_fits _)
 
 pub returns : goal.returns
-returns c = c.searched.ensures ∙ same_number search_sizes capture_values c.search-plain.ensures
+returns c = record { plain_answers = c.searched.ensures ∙ same_number search_sizes capture_values c.search-plain.ensures }

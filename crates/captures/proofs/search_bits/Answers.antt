@@ -26,16 +26,12 @@ attempt-requires c =
       format_in_bounds = room;
     }
 
-pub shape_of-output-in-Reads : goal.shape_of-output-in-Reads
-shape_of-output-in-Reads c =
-    c.attempt.auto.1.1.1.0 ∙ ap length c.loop-place.invariant.1
-
 pub returns-in-Reads : goal.returns-in-Reads
 returns-in-Reads c =
-    let long_tried : let a = (start c).args in attempt_of Long a.capture.now c.loop-place.place a.output.now ≡ outcome c.attempt.result c.attempt.new.output =
-        let a = (start c).args in
+    let long_tried : let a = c.args in attempt_of Long a.capture.now c.loop-place.place a.output.now ≡ outcome c.attempt.result c.attempt.new.output =
+        let a = c.args in
         ap (attempt_of Long a.capture.now c.loop-place.place) (sym c.loop-place.invariant.1) ∙ c.attempt.ensures in
-    let a = (start (goal.at.returns-in-Reads c).After-attempt).args in
+    let a = c.args in
     let o = c.attempt.new.output in
     long_read a.capture.now a.output.now c.loop-place.place c.loop-place.invariant.2 c.in-Reads.reading o
     (long_tried ∙ ap (λ (x : Tried). outcome x o) c.in-Reads.is)
@@ -44,42 +40,33 @@ pub attempt-requires-in-loop-place : goal.attempt-requires-in-loop-place
 attempt-requires-in-loop-place c =
     let room : 830 ≤ length c.loop-place.output = omega (arith, ap length c.loop-place.invariant.1, c.requires.m_in_bounds) in
     record {
-      t = (start (goal.at.attempt-requires-in-loop-place c).After-attempt).pre.0;
-      format_in_bounds = omega (arith, room, c.attempt.auto.1.1.1.0);
+      t = c.requires.t;
+      format_in_bounds = omega arith;
     }
-
-pub shape_of-output-in-Reads-attempt : goal.shape_of-output-in-Reads-attempt
-shape_of-output-in-Reads-attempt c =
-    c.attempt-in-loop-place.auto.1.1.1.0 ∙ c.attempt.auto.1.1.1.0 ∙ ap length (at (goal.at.shape_of-output-in-Reads-attempt c).After-attempt-in-loop-place).loop.inv.1
 
 pub returns-in-Reads-attempt : goal.returns-in-Reads-attempt
 returns-in-Reads-attempt c =
-    let long_tried : let a = (start c).args in attempt_of Long a.capture.now c.loop-place.place a.output.now ≡ outcome c.attempt.result c.attempt.new.output =
-        let a = (start c).args in
+    let long_tried : let a = c.args in attempt_of Long a.capture.now c.loop-place.place a.output.now ≡ outcome c.attempt.result c.attempt.new.output =
+        let a = c.args in
         ap (attempt_of Long a.capture.now c.loop-place.place) (sym c.loop-place.invariant.1) ∙ c.attempt.ensures in
-    let no_long : let a = (start (at c)).args in attempt_of Long a.capture.now (at c).loop.place a.output.now ≡ outcome Nothing c.attempt.new.output = long_tried ∙ ap (λ (x : Tried). outcome x c.attempt.new.output) c.in_default.is in
-    let l = at (goal.at.returns-in-Reads-attempt c).After-attempt-in-loop-place in
-    let a = l.args in
+    let no_long : let a = c.args in attempt_of Long a.capture.now c.loop-place.place a.output.now ≡ outcome Nothing c.attempt.new.output = long_tried ∙ ap (λ (x : Tried). outcome x c.attempt.new.output) c.in_default.is in
+    let a = c.args in
     let o = c.attempt-in-loop-place.new.output in
-    short_read a.capture.now a.output.now l.loop.place l.loop.inv.2 c.attempt.new.output (no_long)
+    short_read a.capture.now a.output.now c.loop-place.place c.loop-place.invariant.2 c.attempt.new.output (no_long)
     c.in-Reads-attempt.reading o
     (c.attempt-in-loop-place.ensures ∙ ap (λ (x : Tried). outcome x o) c.in-Reads-attempt.is)
 
 pub loop-place-preserved : goal.loop-place-preserved
 loop-place-preserved c =
-    let long_tried : let a = (start c).args in attempt_of Long a.capture.now c.loop-place.place a.output.now ≡ outcome c.attempt.result c.attempt.new.output =
-        let a = (start c).args in
+    let long_tried : let a = c.args in attempt_of Long a.capture.now c.loop-place.place a.output.now ≡ outcome c.attempt.result c.attempt.new.output =
+        let a = c.args in
         ap (attempt_of Long a.capture.now c.loop-place.place) (sym c.loop-place.invariant.1) ∙ c.attempt.ensures in
-    let no_long : let a = (start (at c)).args in attempt_of Long a.capture.now (at c).loop.place a.output.now ≡ outcome Nothing c.attempt.new.output = long_tried ∙ ap (λ (x : Tried). outcome x c.attempt.new.output) c.in_default.is in
-    let l = at (goal.at.loop-place-preserved c).After-attempt-in-loop-place in
-    let a = l.args in
+    let no_long : let a = c.args in attempt_of Long a.capture.now c.loop-place.place a.output.now ≡ outcome Nothing c.attempt.new.output = long_tried ∙ ap (λ (x : Tried). outcome x c.attempt.new.output) c.in_default.is in
+    let a = c.args in
     let o = c.attempt-in-loop-place.new.output in
-    let (passed, same) = pass a.capture.now a.output.now l.loop.place l.loop.inv.2 c.attempt.new.output (no_long) o
+    let (passed, same) = pass a.capture.now a.output.now c.loop-place.place c.loop-place.invariant.2 c.attempt.new.output (no_long) o
     (c.attempt-in-loop-place.ensures ∙ ap (λ (x : Tried). outcome x o) c.in_default-attempt.is) in
     (omega arith, same, passed)
-
-pub shape_of-output : goal.shape_of-output
-shape_of-output c = ap length c.loop-place.invariant.1
 
 pub returns : goal.returns
 returns c =

@@ -3,7 +3,7 @@ use mathlib.Core.Path.{◌≡◌, sym, ◌∙◌}
 use mathlib.Core.Bool.{true}
 use Prim.Native.Nat.{◌≤◌, ◌<◌}
 use native.Mathlib.Omega.{arith}
-use borrow.Author.Tests.{not-false, le-leb, lt-leb}
+use borrow.Author.Tests.{le-leb, lt-leb}
 use lib.ListN.{length}
 use Rattle.bits.specs.Bits.{all_bits}
 use Rattle.bits.proofs.Tests.{holds}
@@ -30,7 +30,7 @@ pub returns-then-room-lt-M : goal.returns-then-room-lt-M
 unfolding search_read_table
 returns-then-room-lt-M c out room =
     let within : length c.args.capture.now ≤ capture_limit = omega arith in
-    let bits : all_bits c.args.capture.now ≡ true = sym c.all_bits.ensures ∙ not-false _ c.if-not-all_bits.false in
+    let bits : all_bits c.args.capture.now ≡ true = sym c.all_bits.ensures ∙ c.if-not-all_bits.false in
     let less : length out < 830 = omega arith in
     read_decided _ out _
     (passed (le-leb _ capture_limit (within)) (passed (bits) (failed (lt-leb 830 (length out) less))))
@@ -38,5 +38,5 @@ returns-then-room-lt-M c out room =
 pub returns : goal.returns
 returns c out room =
     let within : length c.args.capture.now ≤ capture_limit = omega arith in
-    let bits : all_bits c.args.capture.now ≡ true = sym c.all_bits.ensures ∙ not-false _ c.if-not-all_bits.false in
+    let bits : all_bits c.args.capture.now ≡ true = sym c.all_bits.ensures ∙ c.if-not-all_bits.false in
     record { within = within; bits = holds _ (bits); room = omega arith }

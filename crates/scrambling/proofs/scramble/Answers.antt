@@ -16,12 +16,11 @@ xor_top-scrambled_bit-requires c =
     all_bits-get_or c.args.block.now c.loop-i.i c.requires.t
 
 pub loop-i-preserved : goal.loop-i-preserved
-loop-i-preserved c =
-    (
-      omega arith,
-      written_more c.loop-i.invariant.1 (omega arith)
-          (scrambled_more c.loop-i.register.state c.args.block.now c.loop-i.i (omega arith) c.xor_top-scrambled_bit.ensures c.fed-register.ensures),
-    )
+loop-i-preserved c = (
+  omega arith,
+  written_more c.loop-i.invariant.1 (omega arith)
+      (scrambled_more c.loop-i.register.state c.args.block.now c.loop-i.i (omega arith) c.xor_top-scrambled_bit.ensures c.fed-register.ensures),
+)
 
 pub shape_of-out : goal.shape_of-out
 shape_of-out c = c.loop-i.invariant.1.same

@@ -54,8 +54,8 @@ loop-i-preserved c =
     ap₂ (λ (u v : ℕ). left (i + 1) u v b) c.place_after-at.ensures c.place_after-other-in-loop-i.ensures in
     let counted : (c.if-b-at.count ≤ i + 1) × (c.loop-i.count + left i at other b ≡ c.if-b-at.count + rest) =
     elim c.if-b-at.branch [
-      then-b-at w ↦ (omega arith, omega (arith, differ (get_or b at 0) (get_or b other 0) rest w.if-b-at.true))
-    | else-b-at w ↦ (omega arith, omega (arith, agree (get_or b at 0) (get_or b other 0) rest w.if-b-at.false))
+      | then-b-at w ↦ (omega arith, omega (arith, differ (get_or b at 0) (get_or b other 0) rest w.if-b-at.true))
+      | else-b-at w ↦ (omega arith, omega (arith, agree (get_or b at 0) (get_or b other 0) rest w.if-b-at.false))
     ] in (
       omega arith,
       counted.0,

@@ -15,15 +15,12 @@ use Rattle.conditions.proofs.repeating.apart.Given as goal
 abbrev pub left : ℕ → ℕ → ℕ → List ℕ → ℕ
 left i at other b = differences (around (22 - i) at b) (around (22 - i) other b)
 
-
 -- two bits differ, or agree
 pub differ : (x y k : ℕ) → (x ≡ y → ⊥) → count_differing (eqb x y) k ≡ suc k
 differ x y k d = ap (λ (t : Bool). count_differing t k) (ne_eqb x y d)
 
-
 pub agree : (x y k : ℕ) → x ≡ y → count_differing (eqb x y) k ≡ k
 agree x y k e = ap (λ (t : Bool). count_differing t k) (eq-eqb x y e)
-
 
 abbrev pub invariant-loop-i : goal.invariant-loop-i
 invariant-loop-i l =

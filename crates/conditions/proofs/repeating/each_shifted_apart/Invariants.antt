@@ -11,7 +11,6 @@ use Rattle.conditions.proofs.repeating.each_shifted_apart.Given as goal
 abbrev pub test : List ℕ → ℕ → Bool
 test b j = shifted_apart b (11 * j)
 
-
 abbrev pub invariant-loop-j : goal.invariant-loop-j
 invariant-loop-j l = Passed (test l.b) (from_to 0 (long.words - 1) (test l.b)) l.j long.words
 

@@ -10,7 +10,6 @@ use Rattle.conditions.proofs.repeating.shifted_apart.Given as goal
 abbrev pub test : List ℕ → ℕ → ℕ → Bool
 test b p k = apart 2 b p (341 + k) && apart 2 b p (341 - k)
 
-
 abbrev pub invariant-loop-k : goal.invariant-loop-k
 invariant-loop-k l = Passed (test l.b l.p) (from_to 1 3 (test l.b l.p)) l.k 4
 

@@ -34,8 +34,8 @@ returns-then-not-is_word_at c =
     let left : ℕ = c.loop-left.left in
     let count : left ≡ suc (left - 1) = omega arith in
     let looked_at : is_word (around 11 (p + 11 * (left - 1)) b) ≡ c.is_word_at.result =
-        sym (c.is_word_at.ensures ∙ ap (λ (x : ℕ). is_word (around 11 x b)) c.place_after.ensures
-        ∙ ap is_word (around-mod 11 (p + 11 * (left - 1)) b)) in
+    sym (c.is_word_at.ensures ∙ ap (λ (x : ℕ). is_word (around 11 x b)) c.place_after.ensures
+    ∙ ap is_word (around-mod 11 (p + 11 * (left - 1)) b)) in
     sym (c.loop-left.invariant.1 ∙ ap (λ (k : ℕ). up_to_invalid k (p) (b)) (count)
     ∙ up_to_last (p) (b) (left - 1) false (looked_at ∙ c.if-not-is_word_at.true) ∙ sym (count))
 
@@ -46,9 +46,8 @@ loop-left-preserved c =
     let left : ℕ = c.loop-left.left in
     let count : left ≡ suc (left - 1) = omega arith in
     let looked_at : is_word (around 11 (p + 11 * (left - 1)) b) ≡ c.is_word_at.result =
-        sym (c.is_word_at.ensures ∙ ap (λ (x : ℕ). is_word (around 11 x b)) c.place_after.ensures
-        ∙ ap is_word (around-mod 11 (p + 11 * (left - 1)) b)) in
-    (
+    sym (c.is_word_at.ensures ∙ ap (λ (x : ℕ). is_word (around 11 x b)) c.place_after.ensures
+    ∙ ap is_word (around-mod 11 (p + 11 * (left - 1)) b)) in (
       omega arith,
       c.loop-left.invariant.1 ∙ ap (λ (k : ℕ). up_to_invalid k (p) (b)) (count)
           ∙ up_to_last (p) (b) (left - 1) true (looked_at ∙ c.if-not-is_word_at.false),

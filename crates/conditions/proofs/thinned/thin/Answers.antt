@@ -37,9 +37,9 @@ bounds-b-at c =
     let step : ℕ = c.args.step in
     let j : ℕ = c.loop-j.j in
     let gone_on : c.place_after-at.result ≡ n - 1 - (j - 1) * step % n =
-        let count : j ≡ j - 1 + 1 = omega arith in
-        c.place_after-at.ensures ∙ ap (λ (x : ℕ). (x + step) % n) (c.loop-j.invariant.2 ∙ ap (λ (x : ℕ). n - 1 - x * step % n) count)
-        ∙ place_on n (j - 1) step (omega arith) (omega arith) in
+    let count : j ≡ j - 1 + 1 = omega arith in
+    c.place_after-at.ensures ∙ ap (λ (x : ℕ). (x + step) % n) (c.loop-j.invariant.2 ∙ ap (λ (x : ℕ). n - 1 - x * step % n) count)
+    ∙ place_on n (j - 1) step (omega arith) (omega arith) in
     omega (arith, gone_on)
 
 pub loop-j-preserved : goal.loop-j-preserved
@@ -49,9 +49,9 @@ loop-j-preserved c =
     let step : ℕ = c.args.step in
     let j : ℕ = c.loop-j.j in
     let gone_on : c.place_after-at.result ≡ n - 1 - (j - 1) * step % n =
-        let count : j ≡ j - 1 + 1 = omega arith in
-        c.place_after-at.ensures ∙ ap (λ (x : ℕ). (x + step) % n) (c.loop-j.invariant.2 ∙ ap (λ (x : ℕ). n - 1 - x * step % n) count)
-        ∙ place_on n (j - 1) step (omega arith) (omega arith) in
+    let count : j ≡ j - 1 + 1 = omega arith in
+    c.place_after-at.ensures ∙ ap (λ (x : ℕ). (x + step) % n) (c.loop-j.invariant.2 ∙ ap (λ (x : ℕ). n - 1 - x * step % n) count)
+    ∙ place_on n (j - 1) step (omega arith) (omega arith) in
     let place : n - 1 - (j - 1) ≡ n - j = omega arith in
     let next : n - j + 1 ≡ n - (j - 1) = omega arith in (
       refl,

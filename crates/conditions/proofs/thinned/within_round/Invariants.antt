@@ -15,14 +15,12 @@ use Rattle.conditions.proofs.thinned.within_round.Given as goal
 abbrev pub test : List ℕ → ℕ → ℕ → Bool
 test v words a = leb (longest_round (valid_words words a v)) 30
 
-
 -- the test is that of the definition
 pub tested : (format : Format) (v : List ℕ) (words : ℕ) → words ≡ (numbers_of format).words
     → from_to 0 10 (thinned_at format v) ≡ from_to 0 10 (test v words)
 unfolding thinned_at
 tested format v words e =
     each_same (thinned_at format v) (test v words) 0 11 λ a. ap (λ (k : ℕ). test v k a) (sym e)
-
 
 abbrev pub invariant-loop-a : goal.invariant-loop-a
 invariant-loop-a l = Passed (test l.v l.words) (from_to 0 10 (test l.v l.words)) l.a 11

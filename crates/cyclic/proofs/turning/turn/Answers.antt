@@ -11,13 +11,13 @@ loop-s-init c x k = turning_start k c.args.remainder
 pub returns-then-turned-remainder : goal.returns-then-turned-remainder
 returns-then-turned-remainder c =
     let k : Serves c.args.format c.f-f.result.low c.telegram_bits-n.result c.unturned-turned.result =
-        record { f = f_low c.args.format c.f-f.result c.f-f.ensures; telegram = c.telegram_bits-n.ensures; unturned = c.unturned-turned.ensures } in
+    record { f = f_low c.args.format c.f-f.result c.f-f.ensures; telegram = c.telegram_bits-n.ensures; unturned = c.unturned-turned.ensures } in
     turning_found k c.loop-s-test.true c.if-turned-remainder.true (c.loop-s.invariant c.args.format k)
 
 pub small_step-turned-requires : goal.small_step-turned-requires
 small_step-turned-requires c =
     let k : Serves c.args.format c.f-f.result.low c.telegram_bits-n.result c.unturned-turned.result =
-        record { f = f_low c.args.format c.f-f.result c.f-f.ensures; telegram = c.telegram_bits-n.ensures; unturned = c.unturned-turned.ensures } in
+    record { f = f_low c.args.format c.f-f.result c.f-f.ensures; telegram = c.telegram_bits-n.ensures; unturned = c.unturned-turned.ensures } in
     let x = c.args.format in record {
       degree_nonzero = (lit< tt, lit< tt);
       s_bound = turn_fits x c.loop-s.s (c.loop-s.invariant x k).register;
@@ -31,5 +31,5 @@ loop-s-preserved c =
 pub returns : goal.returns
 returns c =
     let k : Serves c.args.format c.f-f.result.low c.telegram_bits-n.result c.unturned-turned.result =
-        record { f = f_low c.args.format c.f-f.result c.f-f.ensures; telegram = c.telegram_bits-n.ensures; unturned = c.unturned-turned.ensures } in
+    record { f = f_low c.args.format c.f-f.result c.f-f.ensures; telegram = c.telegram_bits-n.ensures; unturned = c.unturned-turned.ensures } in
     turning_over k c.loop-s-test.false (c.loop-s.invariant c.args.format k)

@@ -1,5 +1,5 @@
 -- `quick_search::pairs::agreed_from` meets its contract. The loop's invariant: the pairs from a up to the end agree. Assumes nothing.
-use Prim.Native.Nat.{◌-◌, ◌≤◌}
+use Prim.Native.Nat.{◌≤◌}
 use Rattle.quick_search.specs.Pairs.{PairsAgree}
 use Rattle.quick_search.proofs.pairs.agreed_from.Given as goal
 

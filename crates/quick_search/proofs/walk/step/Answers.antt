@@ -66,9 +66,8 @@ returns-then-refused c =
     let fits : let a = c.args in a.place + window_bits (numbers_of a.format) ≤ length a.capture.now =
         let a = c.args in
         window_some a.format a.capture.now a.place (λ e. c.if-window-eq0.false (ap length c.window_at-window.ensures ∙ e)) in
-    let begin = (goal.at.returns-then-refused c).After-extra_bits in
-    let a = begin.args in
-    let run = subst (GoesOn a.format a.capture.now a.place) c.if-refused.true begin.pre.1.1.0 in
+    let a = c.args in
+    let run = subst (GoesOn a.format a.capture.now a.place) c.if-refused.true c.requires.goes_on in
     let (on, none, goes) =
     goes_past a.format a.capture.now a.place c.extra_bits.result c.extra_bits.ensures (whole)
     (run_goes_on a.format a.capture.now a.place run (fits) (whole)) in
@@ -76,43 +75,39 @@ returns-then-refused c =
 
 pub read_bits-answer-requires : goal.read_bits-answer-requires
 read_bits-answer-requires c =
-    let some = (goal.at.read_bits-answer-requires c).After-extra_bits in
-    let call = some.before in
-    let begin = call.before.before.before in
-    let a = begin.args in record {
-      t = subst⁻¹ (λ (w : List ℕ). T (all_bits w)) call.window_at.ensures (window_bits_lem a.format a.capture.now a.place begin.pre.0 (fits some));
-      window_len = ap length call.window_at.ensures ∙ window-length a.format a.capture.now a.place (fits some);
+    let fits : let a = c.args in a.place + window_bits (numbers_of a.format) ≤ length a.capture.now =
+        let a = c.args in
+        window_some a.format a.capture.now a.place (λ e. c.if-window-eq0.false (ap length c.window_at-window.ensures ∙ e)) in
+    let a = c.args in record {
+      t = subst⁻¹ (λ (w : List ℕ). T (all_bits w)) c.window_at-window.ensures (window_bits_lem a.format a.capture.now a.place c.requires.t (fits));
+      window_len = ap length c.window_at-window.ensures ∙ window-length a.format a.capture.now a.place (fits);
     }
 
 pub returns-in-Read : goal.returns-in-Read
 returns-in-Read c =
-    let answered : let a = (start c.before.before).args in read_as Proper a.format (window_at a.format a.capture.now a.place) a.output.now ≡ outcome c.read_bits-answer.result c.read_bits-answer.new.output =
-        let extra = c.before.before in
-        let a = extra.args in
-        ap (λ (w : List ℕ). read_as Proper a.format w a.output.now) (sym extra.before.window_at.ensures) ∙ c.read_bits-answer.ensures in
+    let answered : let a = c.args in read_as Proper a.format (window_at a.format a.capture.now a.place) a.output.now ≡ outcome c.read_bits-answer.result c.read_bits-answer.new.output =
+        let a = c.args in
+        ap (λ (w : List ℕ). read_as Proper a.format w a.output.now) (sym c.window_at-window.ensures) ∙ c.read_bits-answer.ensures in
     answered ∙ ap (λ (x : ReadAnswer). outcome x c.read_bits-answer.new.output) c.in-Read.is
 
 pub returns-in-Refused : goal.returns-in-Refused
 unfolding accepts_as
 returns-in-Refused c =
-    let answered : let a = (start c.before.before).args in read_as Proper a.format (window_at a.format a.capture.now a.place) a.output.now ≡ outcome c.read_bits-answer.result c.read_bits-answer.new.output =
-        let extra = c.before.before in
-        let a = extra.args in
-        ap (λ (w : List ℕ). read_as Proper a.format w a.output.now) (sym extra.before.window_at.ensures) ∙ c.read_bits-answer.ensures in
+    let answered : let a = c.args in read_as Proper a.format (window_at a.format a.capture.now a.place) a.output.now ≡ outcome c.read_bits-answer.result c.read_bits-answer.new.output =
+        let a = c.args in
+        ap (λ (w : List ℕ). read_as Proper a.format w a.output.now) (sym c.window_at-window.ensures) ∙ c.read_bits-answer.ensures in
     let agreed : let a = c.args in AgreedFrom (numbers_of a.format).n a.capture.now a.place (a.place + (numbers_of a.format).r) c.agreed_from-agreed.result =
         let a = c.args in
         subst (λ (r : ℕ). AgreedFrom (numbers_of a.format).n a.capture.now a.place (a.place + r) c.agreed_from-agreed.result) c.extra_bits.ensures
         (subst (λ (n : ℕ). AgreedFrom n a.capture.now a.place (a.place + c.extra_bits.result) c.agreed_from-agreed.result)
         c.telegram_bits-n.ensures c.agreed_from-agreed.ensures) in
     let whole : let a = c.args in PairsAgree (numbers_of a.format).n a.capture.now a.place (a.place + (numbers_of a.format).r) = λ j from below. (agreed).agree j (omega (arith, c.if-place-agreed.false)) below in
-    let extra = (goal.at.returns-in-Refused c).Else-refused in
-    let begin = extra in
-    let a = begin.args in
+    let a = c.args in
     let o = c.read_bits-answer.new.output in
     let (kept, unread) =
     answered_refused Proper a.format (window_at a.format a.capture.now a.place) a.output.now c.in-Refused.field-0 o
     (answered ∙ ap (λ (x : ReadAnswer). outcome x o) c.in-Refused.is) in
     let (on, none, goes) =
-    goes_past a.format a.capture.now a.place extra.extra-bits.result extra.extra-bits.ensures (whole)
-    (unread begin.pre.1.1.1) in
+    goes_past a.format a.capture.now a.place c.extra_bits.result c.extra_bits.ensures (whole)
+    (unread c.requires.format_in_bounds) in
     (on, none, goes, kept)

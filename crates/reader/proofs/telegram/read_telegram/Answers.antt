@@ -4,7 +4,6 @@ use mathlib.Core.Bool.{true}
 use mathlib.Core.List.{List, ◌++◌}
 use Prim.Native.Nat.{ℕ, ◌*◌}
 use native.Mathlib.Omega.{arith}
-use borrow.Author.Tests.{not-false}
 use lib.ListN.{drop, replicate}
 use lib.Seq.{length-take-le}
 use Rattle.bits.specs.Bits.{same}
@@ -46,7 +45,7 @@ unshape-answer-requires c =
 
 pub returns-in-NotWord : goal.returns-in-NotWord
 returns-in-NotWord c =
-    let controlled : let a = c.args in same (control_of (numbers_of a.format) a.telegram.now) control ≡ true = sym c.has_control.ensures ∙ not-false _ c.if-not-has_control.false in
+    let controlled : let a = c.args in same (control_of (numbers_of a.format) a.telegram.now) control ≡ true = sym c.has_control.ensures ∙ c.if-not-has_control.false in
     let a = c.args in
     let told = ap (λ (k : ℕ). worded k a.telegram.now) (sym c.words-words.ensures) ∙ sym c.unshape-answer.ensures.value ∙ c.in-NotWord.is in
     let (some, is) = not_word_some _ _ c.in-NotWord.bad told in
@@ -59,7 +58,7 @@ first_failing-requires c =
 
 pub returns-in-First : goal.returns-in-First
 returns-in-First c =
-    let controlled : let a = c.args in same (control_of (numbers_of a.format) a.telegram.now) control ≡ true = sym c.has_control.ensures ∙ not-false _ c.if-not-has_control.false in
+    let controlled : let a = c.args in same (control_of (numbers_of a.format) a.telegram.now) control ≡ true = sym c.has_control.ensures ∙ c.if-not-has_control.false in
     let words_in_table : all_words c.words-words.result c.args.telegram.now ≡ true =
         let b = c.args.telegram.now in
         whole_all b c.words-words.result (sym c.unshape-answer.ensures.value ∙ c.in_default.is) in
@@ -77,7 +76,7 @@ slice_bounds-unshaped-end c =
 pub slice_bounds-write_user_bits-end : goal.slice_bounds-write_user_bits-end
 slice_bounds-write_user_bits-end c =
     let u = c.unshape-answer.new.out in
-    sym (length-take-le c.user_bits-m.result u (slice_bounds-unshaped-end (goal.at.slice_bounds-write_user_bits-end c).After-user_bits-m))
+    sym (length-take-le c.user_bits-m.result u (omega (arith, block_between c.args.format, c.unshape-answer.auto)))
 
 pub write_user_bits-requires : goal.write_user_bits-requires
 write_user_bits-requires c =
@@ -92,10 +91,11 @@ write_user_bits-requires c =
     let u = c.unshape-answer.new.out in
     let size = length-unshaped (blocks F) b in
     rw (data_blocks F S b u (drop (10 * c.words-words.result) zeros) c.words-words.result c.user_bits-m.result
-    c.words-words.ensures c.user_bits-m.ensures (filled)) (
-      bits_unshaped (blocks F) b,
-      ((omega (arith, size, S), omega (arith, size, S, block_between a.format)), omega (arith, size, S, c.requires.format_in_bounds)),
-    )
+    c.words-words.ensures c.user_bits-m.ensures (filled)) (record {
+      t = bits_unshaped (blocks F) b;
+      in_bounds = (omega (arith, size, S), omega (arith, size, S, block_between a.format));
+      scrambled_in_bounds = omega (arith, size, S, c.requires.format_in_bounds);
+    })
 
 pub returns : goal.returns
 unfolding reading_of
@@ -104,7 +104,7 @@ returns c =
         let b = c.args.telegram.now in
         whole_all b c.words-words.result (sym c.unshape-answer.ensures.value ∙ c.in_default.is) in
     let filled : let b = c.args.telegram.now in c.unshape-answer.new.out ≡ unshaped c.words-words.result b ++ drop (10 * c.words-words.result) zeros = c.unshape-answer.ensures.out_after (holds _ (words_in_table)) in
-    let controlled : let a = c.args in same (control_of (numbers_of a.format) a.telegram.now) control ≡ true = sym c.has_control.ensures ∙ not-false _ c.if-not-has_control.false in
+    let controlled : let a = c.args in same (control_of (numbers_of a.format) a.telegram.now) control ≡ true = sym c.has_control.ensures ∙ c.if-not-has_control.false in
     let all_worded : let a = c.args in all_words (numbers_of a.format).words a.telegram.now ≡ true =
         let b = c.args.telegram.now in
         ap (λ (k : ℕ). all_words k b) (sym c.words-words.ensures) ∙ words_in_table in

@@ -1,15 +1,18 @@
 -- `reader::tested::read_bits` meets its contract: the answer at each test, and what the telegram at the turn found gives. Assumes nothing.
 use mathlib.Core.Path.{◌≡◌, sym, ap, ◌∙◌}
 use mathlib.Core.Bool.{true}
+use mathlib.Core.List.{List}
 use Prim.Native.Nat.{ℕ, ◌≤◌}
 use native.Mathlib.Omega.{arith}
-use borrow.Author.Tests.{not-false}
+use lib.Dec.{T}
 use lib.ListN.{length, take}
 use lib.Seq.{length-take-le}
-use Rattle.bits.specs.Bits.{all_bits}
+use Rattle.bits.specs.Bits.{all_bits, number_of, bits_of}
 use Rattle.bits.proofs.AllBits.{all_bits-take}
 use Rattle.bits.proofs.Tests.{is_true}
+use Rattle.formats.specs.declared.format.Format.{Format}
 use Rattle.formats.specs.Numbers.{numbers_of, f_of}
+use Rattle.cyclic.specs.declared.Turn.{Turn}
 use Rattle.cyclic.specs.Remainder.{remainder}
 use Rattle.cyclic.specs.Check.{turn_of, divisible}
 use Rattle.cyclic.proofs.Formats.{facts_of}
@@ -20,19 +23,15 @@ use Rattle.reader.proofs.Turns.{found-leaves}
 use Rattle.reader.proofs.tested.read_bits.Goals as goal
 
 -- the turn that the remainder by f belongs to
-turn_is : (c : goal.After-turn) →
-    let a = c.args in
-    turn_found (numbers_of a.format) a.window.now ≡ c.turn.result
+turn_is : (format : Format) (w : List ℕ) → T (all_bits w) → (n r : ℕ) (t : Turn) → n ≡ (numbers_of format).n
+    → r ≡ number_of (remainder (f_of (numbers_of format)) (take n w)) → t ≡ turn_of (numbers_of format) (bits_of 10 r)
+    → turn_found (numbers_of format) w ≡ t
 unfolding turn_found
-turn_is c =
-    let a = c.args in
-    let F = numbers_of a.format in
-    let n = c.telegram_bits-n.result in
-    let m = (facts_of a.format).f_degree in
-    let v = take n a.window.now in
-    ap (λ (i : ℕ). turn_of F (remainder (f_of F) (take i a.window.now))) (sym c.telegram_bits-n.ensures)
-    ∙ ap (turn_of F) (sym (remainder_list m v (all_bits-take n a.window.now c.requires.t) c.remainder_f-rest.ensures.value))
-    ∙ sym c.turn.ensures
+turn_is format w bits n r t n-is r-is t-is =
+    let F = numbers_of format in
+    ap (λ (i : ℕ). turn_of F (remainder (f_of F) (take i w))) (sym n-is)
+    ∙ ap (turn_of F) (sym (remainder_list (facts_of format).f_degree (take n w) (all_bits-take n w bits) r-is))
+    ∙ sym t-is
 
 pub returns-then-output-user_bits : goal.returns-then-output-user_bits
 returns-then-output-user_bits c =
@@ -63,7 +62,7 @@ pub returns-then-not-divisible : goal.returns-then-not-divisible
 returns-then-not-divisible c =
     let bits : all_bits c.args.window.now ≡ true = is_true (all_bits c.args.window.now) c.requires.t in
     let room : let a = c.args in (numbers_of a.format).m ≤ length a.output.now = omega arith in
-    let agree : let a = c.args in ends_agree (numbers_of a.format) a.window.now ≡ true = sym c.ends_agree.ensures ∙ not-false _ c.if-not-ends_agree.false in
+    let agree : let a = c.args in ends_agree (numbers_of a.format) a.window.now ≡ true = sym c.ends_agree.ensures ∙ c.if-not-ends_agree.false in
     let tested : let a = c.args in divisible (numbers_of a.format) (take (numbers_of a.format).n a.window.now) ≡ c.divisible.result =
         let a = c.args in
         ap (λ (n : ℕ). divisible (numbers_of a.format) (take n a.window.now)) (sym c.telegram_bits-n.ensures)
@@ -87,20 +86,26 @@ pub returns-in_default : goal.returns-in_default
 returns-in_default c =
     let bits : all_bits c.args.window.now ≡ true = is_true (all_bits c.args.window.now) c.requires.t in
     let room : let a = c.args in (numbers_of a.format).m ≤ length a.output.now = omega arith in
-    let agree : let a = c.args in ends_agree (numbers_of a.format) a.window.now ≡ true = sym c.ends_agree.ensures ∙ not-false _ c.if-not-ends_agree.false in
+    let agree : let a = c.args in ends_agree (numbers_of a.format) a.window.now ≡ true = sym c.ends_agree.ensures ∙ c.if-not-ends_agree.false in
     let tested : let a = c.args in divisible (numbers_of a.format) (take (numbers_of a.format).n a.window.now) ≡ c.divisible.result =
         let a = c.args in
         ap (λ (n : ℕ). divisible (numbers_of a.format) (take n a.window.now)) (sym c.telegram_bits-n.ensures)
         ∙ sym c.divisible.ensures in
     let a = c.args in
+    let found =
+    turn_is a.format a.window.now c.requires.t c.telegram_bits-n.result c.remainder_f-rest.result c.turn.result
+    c.telegram_bits-n.ensures c.remainder_f-rest.ensures.value c.turn.ensures in
     turn_refused a.asked a.format a.window.now a.output.now c.requires.window_len (bits) (room) (agree)
-    (tested ∙ c.if-not-divisible.false) (turn_is (goal.at.returns-in_default c).After-turn ∙ c.in_default.is)
+    (tested ∙ c.if-not-divisible.false) (found ∙ c.in_default.is)
 
 pub read_turned-requires : goal.read_turned-requires
 read_turned-requires c =
     let room : let a = c.args in (numbers_of a.format).m ≤ length a.output.now = omega arith in
     let a = c.args in
-    let below = found-leaves (numbers_of a.format) a.window.now c.in-At.t (turn_is (goal.at.read_turned-requires c).After-turn ∙ c.in-At.is) in record {
+    let found =
+    turn_is a.format a.window.now c.requires.t c.telegram_bits-n.result c.remainder_f-rest.result c.turn.result
+    c.telegram_bits-n.ensures c.remainder_f-rest.ensures.value c.turn.ensures in
+    let below = found-leaves (numbers_of a.format) a.window.now c.in-At.t (found ∙ c.in-At.is) in record {
       t = c.requires.t;
       format_in_bounds = omega (arith, c.requires.window_len);
       t_bound = omega (arith, below.0);
@@ -111,12 +116,15 @@ pub returns : goal.returns
 returns c =
     let bits : all_bits c.args.window.now ≡ true = is_true (all_bits c.args.window.now) c.requires.t in
     let room : let a = c.args in (numbers_of a.format).m ≤ length a.output.now = omega arith in
-    let agree : let a = c.args in ends_agree (numbers_of a.format) a.window.now ≡ true = sym c.ends_agree.ensures ∙ not-false _ c.if-not-ends_agree.false in
+    let agree : let a = c.args in ends_agree (numbers_of a.format) a.window.now ≡ true = sym c.ends_agree.ensures ∙ c.if-not-ends_agree.false in
     let tested : let a = c.args in divisible (numbers_of a.format) (take (numbers_of a.format).n a.window.now) ≡ c.divisible.result =
         let a = c.args in
         ap (λ (n : ℕ). divisible (numbers_of a.format) (take n a.window.now)) (sym c.telegram_bits-n.ensures)
         ∙ sym c.divisible.ensures in
     let a = c.args in
+    let found =
+    turn_is a.format a.window.now c.requires.t c.telegram_bits-n.result c.remainder_f-rest.result c.turn.result
+    c.telegram_bits-n.ensures c.remainder_f-rest.ensures.value c.turn.ensures in
     turn_found_lem a.asked a.format a.window.now a.output.now c.requires.window_len (bits) (room) (agree)
-    (tested ∙ c.if-not-divisible.false) c.in-At.t (turn_is (goal.at.returns c).After-turn ∙ c.in-At.is)
+    (tested ∙ c.if-not-divisible.false) c.in-At.t (found ∙ c.in-At.is)
     ∙ c.read_turned.ensures

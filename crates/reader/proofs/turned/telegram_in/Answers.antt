@@ -10,19 +10,16 @@ use Rattle.reader.specs.Reads.{turned_back}
 use Rattle.reader.proofs.Parts.Found.{length_back, bits_back, front_is, is_flipped_lem, is_upright, flipped_stands, upright_stands}
 use Rattle.reader.proofs.turned.telegram_in.Goals as goal
 
--- the window has n bits
-first_size : (c : goal.After-telegram_bits-n)
-    → length (take c.telegram_bits-n.result c.args.window.now) ≡ c.telegram_bits-n.result
-first_size c = length-take-le c.telegram_bits-n.result c.args.window.now (omega arith)
-
 pub slice_bounds-turn_back-end : goal.slice_bounds-turn_back-end
-slice_bounds-turn_back-end c = sym (first_size (goal.at.slice_bounds-turn_back-end c).After-slice_known-1)
+slice_bounds-turn_back-end c = sym (length-take-le c.telegram_bits-n.result c.args.window.now (omega arith))
 
 pub turn_back-requires : goal.turn_back-requires
 turn_back-requires c =
+    let n = c.telegram_bits-n.result in
+    let size : length (take n c.args.window.now) ≡ n = length-take-le n c.args.window.now (omega arith) in
     record {
-      t_in_bounds = omega (arith, first_size (goal.at.turn_back-requires c).After-slice_known-1);
-      first_in_bounds = omega (arith, first_size (goal.at.turn_back-requires c).After-slice_known-1);
+      t_in_bounds = omega arith;
+      first_in_bounds = omega arith;
     }
 
 pub overflow_sub-b109 : goal.overflow_sub-b109

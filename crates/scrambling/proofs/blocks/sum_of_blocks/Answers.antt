@@ -20,15 +20,15 @@ number-sum-requires c = (omega arith, (omega arith, c.requires.t))
 pub overflow_add-sum : goal.overflow_add-sum
 overflow_add-sum c =
     let small : c.number-sum.result < 1024 =
-        let block = c.args.block.now in
-        rw c.number-sum.ensures (front_below 10 (drop (10 * c.loop-j.j) block) (all_bits-drop (10 * c.loop-j.j) block c.requires.t)) in
+    let block = c.args.block.now in
+    rw c.number-sum.ensures (front_below 10 (drop (10 * c.loop-j.j) block) (all_bits-drop (10 * c.loop-j.j) block c.requires.t)) in
     omega (arith, small)
 
 pub loop-j-preserved : goal.loop-j-preserved
 loop-j-preserved c =
     let small : c.number-sum.result < 1024 =
-        let block = c.args.block.now in
-        rw c.number-sum.ensures (front_below 10 (drop (10 * c.loop-j.j) block) (all_bits-drop (10 * c.loop-j.j) block c.requires.t)) in
+    let block = c.args.block.now in
+    rw c.number-sum.ensures (front_below 10 (drop (10 * c.loop-j.j) block) (all_bits-drop (10 * c.loop-j.j) block c.requires.t)) in
     let block = c.args.block.now in
     let j = c.loop-j.j in
     let k = length block / 10 in

@@ -42,9 +42,9 @@ pub write_shaped_data-requires : goal.write_shaped_data-requires
 write_shaped_data-requires c =
     let ten : 10 ≤ length c.args.block.now = omega (arith, sizes_of c.args.format) in
     let summed : let a = c.args in take (length a.block.now) c.write_summed.new.out ≡ with_sum (blocks (numbers_of a.format)) a.block.now =
-        let u = c.args.block.now in
-        front_is (with_sum (length u / 10) u) _ _ (length u) (with_sum-length (length u / 10) u (ten)) c.write_summed.ensures
-        ∙ ap (λ (m : ℕ). with_sum (m / 10) u) c.requires.block_len in
+    let u = c.args.block.now in
+    front_is (with_sum (length u / 10) u) _ _ (length u) (with_sum-length (length u / 10) u (ten)) c.write_summed.ensures
+    ∙ ap (λ (m : ℕ). with_sum (m / 10) u) c.requires.block_len in
     let u = c.args.block.now in
     let k = blocks (numbers_of c.args.format) in
     rw (summed) (record {
@@ -57,9 +57,9 @@ pub complete-requires : goal.complete-requires
 complete-requires c =
     let ten : 10 ≤ length c.args.block.now = omega (arith, sizes_of c.args.format) in
     let summed : let a = c.args in take (length a.block.now) c.write_summed.new.out ≡ with_sum (blocks (numbers_of a.format)) a.block.now =
-        let u = c.args.block.now in
-        front_is (with_sum (length u / 10) u) _ _ (length u) (with_sum-length (length u / 10) u (ten)) c.write_summed.ensures
-        ∙ ap (λ (m : ℕ). with_sum (m / 10) u) c.requires.block_len in
+    let u = c.args.block.now in
+    front_is (with_sum (length u / 10) u) _ _ (length u) (with_sum-length (length u / 10) u (ten)) c.write_summed.ensures
+    ∙ ap (λ (m : ℕ). with_sum (m / 10) u) c.requires.block_len in
     let filled : let a = c.args in let k = blocks (numbers_of a.format) in c.write_shaped_data.new.telegram ≡ shaped k (scrambled a.b (with_sum k a.block.now)) ++ drop (11 * k) a.out.now = rw (summed) at c.write_shaped_data.ensures in
     let a = c.args in
     let F = numbers_of a.format in
@@ -72,9 +72,9 @@ pub returns : goal.returns
 returns c =
     let ten : 10 ≤ length c.args.block.now = omega (arith, sizes_of c.args.format) in
     let summed : let a = c.args in take (length a.block.now) c.write_summed.new.out ≡ with_sum (blocks (numbers_of a.format)) a.block.now =
-        let u = c.args.block.now in
-        front_is (with_sum (length u / 10) u) _ _ (length u) (with_sum-length (length u / 10) u (ten)) c.write_summed.ensures
-        ∙ ap (λ (m : ℕ). with_sum (m / 10) u) c.requires.block_len in
+    let u = c.args.block.now in
+    front_is (with_sum (length u / 10) u) _ _ (length u) (with_sum-length (length u / 10) u (ten)) c.write_summed.ensures
+    ∙ ap (λ (m : ℕ). with_sum (m / 10) u) c.requires.block_len in
     let filled : let a = c.args in let k = blocks (numbers_of a.format) in c.write_shaped_data.new.telegram ≡ shaped k (scrambled a.b (with_sum k a.block.now)) ++ drop (11 * k) a.out.now = rw (summed) at c.write_shaped_data.ensures in
     let a = c.args in
     made_over (numbers_of a.format) (sizes_of a.format) a.block.now a.b a.esb a.out.now

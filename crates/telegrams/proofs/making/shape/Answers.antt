@@ -25,17 +25,17 @@ number-number-requires c = (omega arith, (omega arith, c.requires.t))
 pub overflow_cast-number : goal.overflow_cast-number
 overflow_cast-number c =
     let ten_bits : c.number-number.result < 1024 =
-        let v = c.args.scrambled.now in
-        let at = 10 * c.loop-j.j in
-        omega (arith, c.number-number.ensures, front_below 10 (drop at v) (all_bits-drop at v c.requires.t)) in
+    let v = c.args.scrambled.now in
+    let at = 10 * c.loop-j.j in
+    omega (arith, c.number-number.ensures, front_below 10 (drop at v) (all_bits-drop at v c.requires.t)) in
     omega (arith, ten_bits)
 
 pub word_in-word-requires : goal.word_in-word-requires
 word_in-word-requires c =
     let ten_bits : c.number-number.result < 1024 =
-        let v = c.args.scrambled.now in
-        let at = 10 * c.loop-j.j in
-        omega (arith, c.number-number.ensures, front_below 10 (drop at v) (all_bits-drop at v c.requires.t)) in
+    let v = c.args.scrambled.now in
+    let at = 10 * c.loop-j.j in
+    omega (arith, c.number-number.ensures, front_below 10 (drop at v) (all_bits-drop at v c.requires.t)) in
     (c.entries-entries.ensures, ten_bits)
 
 pub write_number-requires : goal.write_number-requires

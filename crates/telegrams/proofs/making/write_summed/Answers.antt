@@ -18,23 +18,23 @@ module _ (u old s : List ℕ) (m : ℕ) (all : m ≡ length u) (e : s ≡ u ++ d
 pub slice_bounds-add_sum-end-2 : goal.slice_bounds-add_sum-end-2
 slice_bounds-add_sum-end-2 c =
     let block : take c.copy-m.result c.copy-m.new.out ≡ c.args.block.now =
-        let a = c.args in
-        copied a.block.now a.out.now c.copy-m.new.out c.copy-m.result c.copy-m.ensures.count c.copy-m.ensures.copied in
+    let a = c.args in
+    copied a.block.now a.out.now c.copy-m.new.out c.copy-m.result c.copy-m.ensures.count c.copy-m.ensures.copied in
     c.copy-m.ensures.count ∙ sym (ap length (block))
 
 pub add_sum-requires : goal.add_sum-requires
 add_sum-requires c =
     let block : take c.copy-m.result c.copy-m.new.out ≡ c.args.block.now =
-        let a = c.args in
-        copied a.block.now a.out.now c.copy-m.new.out c.copy-m.result c.copy-m.ensures.count c.copy-m.ensures.copied in
+    let a = c.args in
+    copied a.block.now a.out.now c.copy-m.new.out c.copy-m.result c.copy-m.ensures.count c.copy-m.ensures.copied in
     let pre = c.requires in
     rw (block) (record { t = pre.t; in_bounds = pre.in_bounds.0; block_len_bound = pre.in_bounds.1 })
 
 pub returns : goal.returns
 returns c =
     let block : take c.copy-m.result c.copy-m.new.out ≡ c.args.block.now =
-        let a = c.args in
-        copied a.block.now a.out.now c.copy-m.new.out c.copy-m.result c.copy-m.ensures.count c.copy-m.ensures.copied in
+    let a = c.args in
+    copied a.block.now a.out.now c.copy-m.new.out c.copy-m.result c.copy-m.ensures.count c.copy-m.ensures.copied in
     let a = c.args in
     ap₂ ◌++◌
     (c.add_sum.ensures ∙ ap (λ (l : List ℕ). with_sum (length l / 10) l) (block))

@@ -13,16 +13,16 @@ use Rattle.telegrams.proofs.undoing.write_user_bits.Goals as goal
 pub slice_bounds-remove_sum-end-2 : goal.slice_bounds-remove_sum-end-2
 slice_bounds-remove_sum-end-2 c =
     let front : let a = c.args in take (length a.scrambled.now) c.descramble.new.out ≡ descrambled a.b a.scrambled.now =
-        let a = c.args in
-        front_is (descrambled a.b a.scrambled.now) _ _ _ (descrambled-length a.b a.scrambled.now) c.descramble.ensures in
+    let a = c.args in
+    front_is (descrambled a.b a.scrambled.now) _ _ _ (descrambled-length a.b a.scrambled.now) c.descramble.ensures in
     let a = c.args in
     sym (ap length (front) ∙ descrambled-length a.b a.scrambled.now)
 
 pub remove_sum-requires : goal.remove_sum-requires
 remove_sum-requires c =
     let front : let a = c.args in take (length a.scrambled.now) c.descramble.new.out ≡ descrambled a.b a.scrambled.now =
-        let a = c.args in
-        front_is (descrambled a.b a.scrambled.now) _ _ _ (descrambled-length a.b a.scrambled.now) c.descramble.ensures in
+    let a = c.args in
+    front_is (descrambled a.b a.scrambled.now) _ _ _ (descrambled-length a.b a.scrambled.now) c.descramble.ensures in
     let a = c.args in
     let size = descrambled-length a.b a.scrambled.now in
     rw (front) (record {
@@ -34,8 +34,8 @@ remove_sum-requires c =
 pub returns : goal.returns
 returns c =
     let front : let a = c.args in take (length a.scrambled.now) c.descramble.new.out ≡ descrambled a.b a.scrambled.now =
-        let a = c.args in
-        front_is (descrambled a.b a.scrambled.now) _ _ _ (descrambled-length a.b a.scrambled.now) c.descramble.ensures in
+    let a = c.args in
+    front_is (descrambled a.b a.scrambled.now) _ _ _ (descrambled-length a.b a.scrambled.now) c.descramble.ensures in
     let a = c.args in
     let u = descrambled a.b a.scrambled.now in
     ap₂ ◌++◌
