@@ -23,11 +23,11 @@ returns-then-window-eq0 c =
 pub ends_agree-requires : goal.ends_agree-requires
 ends_agree-requires c =
     let fits : let a = c.args in a.place + window_bits (numbers_of a.format) ≤ length a.capture.now =
-        let a = c.args in
-        window_some a.format a.capture.now a.place (λ e. c.if-window-eq0.false (ap length c.window_at-window.ensures ∙ e)) in
+    let a = c.args in
+    window_some a.format a.capture.now a.place (λ e. c.if-window-eq0.false (ap length c.window_at-window.ensures ∙ e)) in
     let whole : length c.window_at-window.result.now ≡ window_bits (numbers_of c.args.format) =
-        let a = c.args in
-        ap length c.window_at-window.ensures ∙ window-length a.format a.capture.now a.place (fits) in
+    let a = c.args in
+    ap length c.window_at-window.ensures ∙ window-length a.format a.capture.now a.place (fits) in
     whole
 
 pub returns-then-not-ends_agree : goal.returns-then-not-ends_agree
@@ -39,11 +39,11 @@ returns-then-not-ends_agree c =
 pub read_bits-answer-requires : goal.read_bits-answer-requires
 read_bits-answer-requires c =
     let fits : let a = c.args in a.place + window_bits (numbers_of a.format) ≤ length a.capture.now =
-        let a = c.args in
-        window_some a.format a.capture.now a.place (λ e. c.if-window-eq0.false (ap length c.window_at-window.ensures ∙ e)) in
+    let a = c.args in
+    window_some a.format a.capture.now a.place (λ e. c.if-window-eq0.false (ap length c.window_at-window.ensures ∙ e)) in
     let whole : length c.window_at-window.result.now ≡ window_bits (numbers_of c.args.format) =
-        let a = c.args in
-        ap length c.window_at-window.ensures ∙ window-length a.format a.capture.now a.place (fits) in
+    let a = c.args in
+    ap length c.window_at-window.ensures ∙ window-length a.format a.capture.now a.place (fits) in
     let a = c.args in record {
       t = subst⁻¹ (λ (w : List ℕ). T (all_bits w)) c.window_at-window.ensures (window_bits_lem a.format a.capture.now a.place c.requires.t (fits));
       window_len = whole;
@@ -52,8 +52,8 @@ read_bits-answer-requires c =
 pub returns-in-Read : goal.returns-in-Read
 returns-in-Read c =
     let answered : let a = c.args in read_as Proper a.format (window_at a.format a.capture.now a.place) a.output.now ≡ outcome c.read_bits-answer.result c.read_bits-answer.new.output =
-        let a = c.args in
-        ap (λ (w : List ℕ). read_as Proper a.format w a.output.now) (sym c.window_at-window.ensures) ∙ c.read_bits-answer.ensures in
+    let a = c.args in
+    ap (λ (w : List ℕ). read_as Proper a.format w a.output.now) (sym c.window_at-window.ensures) ∙ c.read_bits-answer.ensures in
     let a = c.args in
     read_tried a.format a.capture.now a.place a.output.now c.in-Read.reading c.read_bits-answer.new.output
     (answered ∙ ap (λ (x : ReadAnswer). outcome x c.read_bits-answer.new.output) c.in-Read.is)
@@ -61,8 +61,8 @@ returns-in-Read c =
 pub returns-in-Refused : goal.returns-in-Refused
 returns-in-Refused c =
     let answered : let a = c.args in read_as Proper a.format (window_at a.format a.capture.now a.place) a.output.now ≡ outcome c.read_bits-answer.result c.read_bits-answer.new.output =
-        let a = c.args in
-        ap (λ (w : List ℕ). read_as Proper a.format w a.output.now) (sym c.window_at-window.ensures) ∙ c.read_bits-answer.ensures in
+    let a = c.args in
+    ap (λ (w : List ℕ). read_as Proper a.format w a.output.now) (sym c.window_at-window.ensures) ∙ c.read_bits-answer.ensures in
     let a = c.args in
     refused_tried a.format a.capture.now a.place a.output.now c.in-Refused.field-0 c.read_bits-answer.new.output c.requires.format_in_bounds
     (answered ∙ ap (λ (x : ReadAnswer). outcome x c.read_bits-answer.new.output) c.in-Refused.is)

@@ -29,8 +29,8 @@ attempt-requires c =
 pub returns-in-Reads : goal.returns-in-Reads
 returns-in-Reads c =
     let long_tried : let a = c.args in attempt_of Long a.capture.now c.loop-place.place a.output.now ≡ outcome c.attempt.result c.attempt.new.output =
-        let a = c.args in
-        ap (attempt_of Long a.capture.now c.loop-place.place) (sym c.loop-place.invariant.1) ∙ c.attempt.ensures in
+    let a = c.args in
+    ap (attempt_of Long a.capture.now c.loop-place.place) (sym c.loop-place.invariant.1) ∙ c.attempt.ensures in
     let a = c.args in
     let o = c.attempt.new.output in
     long_read a.capture.now a.output.now c.loop-place.place c.loop-place.invariant.2 c.in-Reads.reading o
@@ -47,8 +47,8 @@ attempt-requires-in-loop-place c =
 pub returns-in-Reads-attempt : goal.returns-in-Reads-attempt
 returns-in-Reads-attempt c =
     let long_tried : let a = c.args in attempt_of Long a.capture.now c.loop-place.place a.output.now ≡ outcome c.attempt.result c.attempt.new.output =
-        let a = c.args in
-        ap (attempt_of Long a.capture.now c.loop-place.place) (sym c.loop-place.invariant.1) ∙ c.attempt.ensures in
+    let a = c.args in
+    ap (attempt_of Long a.capture.now c.loop-place.place) (sym c.loop-place.invariant.1) ∙ c.attempt.ensures in
     let no_long : let a = c.args in attempt_of Long a.capture.now c.loop-place.place a.output.now ≡ outcome Nothing c.attempt.new.output = long_tried ∙ ap (λ (x : Tried). outcome x c.attempt.new.output) c.in_default.is in
     let a = c.args in
     let o = c.attempt-in-loop-place.new.output in
@@ -59,8 +59,8 @@ returns-in-Reads-attempt c =
 pub loop-place-preserved : goal.loop-place-preserved
 loop-place-preserved c =
     let long_tried : let a = c.args in attempt_of Long a.capture.now c.loop-place.place a.output.now ≡ outcome c.attempt.result c.attempt.new.output =
-        let a = c.args in
-        ap (attempt_of Long a.capture.now c.loop-place.place) (sym c.loop-place.invariant.1) ∙ c.attempt.ensures in
+    let a = c.args in
+    ap (attempt_of Long a.capture.now c.loop-place.place) (sym c.loop-place.invariant.1) ∙ c.attempt.ensures in
     let no_long : let a = c.args in attempt_of Long a.capture.now c.loop-place.place a.output.now ≡ outcome Nothing c.attempt.new.output = long_tried ∙ ap (λ (x : Tried). outcome x c.attempt.new.output) c.in_default.is in
     let a = c.args in
     let o = c.attempt-in-loop-place.new.output in

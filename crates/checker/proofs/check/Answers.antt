@@ -27,11 +27,10 @@ returns-then-not-all_bits c =
 
 pub check_form-requires : goal.check_form-requires
 check_form-requires c =
-    let sized : length c.args.telegram.now ≡ (numbers_of c.of_length-format.result).n = c.if-telegram-telegram_bits.false ∙ c.telegram_bits.ensures in
-    (
-  holds _ (sym c.all_bits.ensures ∙ c.if-not-all_bits.false),
-  sized,
-)
+    let sized : length c.args.telegram.now ≡ (numbers_of c.of_length-format.result).n = c.if-telegram-telegram_bits.false ∙ c.telegram_bits.ensures in (
+      holds _ (sym c.all_bits.ensures ∙ c.if-not-all_bits.false),
+      sized,
+    )
 
 pub returns : goal.returns
 returns c =

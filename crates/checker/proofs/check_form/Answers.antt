@@ -66,7 +66,7 @@ returns-in-NotWord c =
     let turned_0 : unturned (numbers_of c.args.format) c.args.telegram.now ≡ true = sym c.unturned.ensures ∙ c.if-not-unturned.false in
     let controlled : same (control_of (numbers_of c.args.format) c.args.telegram.now) control ≡ true = sym c.has_control.ensures ∙ c.if-not-has_control.false in
     let told : c.go_through.result ≡ worded (numbers_of c.args.format).words c.args.telegram.now =
-        c.go_through.ensures ∙ ap (λ (k : ℕ). worded k c.args.telegram.now) c.words.ensures in
+    c.go_through.ensures ∙ ap (λ (k : ℕ). worded k c.args.telegram.now) c.words.ensures in
     let (some, is) = not_word_some _ _ c.in-NotWord.bad (sym told ∙ c.in-NotWord.is) in
     ap (λ (bad : BadWord). Refused (NotWord bad)) (sym is)
     ∙ answered _ _ c.requires _ (passed divides (passed turned_0 (passed controlled (failed some))))
@@ -77,7 +77,7 @@ check_conditions-requires c =
     let turned_0 : unturned (numbers_of c.args.format) c.args.telegram.now ≡ true = sym c.unturned.ensures ∙ c.if-not-unturned.false in
     let controlled : same (control_of (numbers_of c.args.format) c.args.telegram.now) control ≡ true = sym c.has_control.ensures ∙ c.if-not-has_control.false in
     let told : c.go_through.result ≡ worded (numbers_of c.args.format).words c.args.telegram.now =
-        c.go_through.ensures ∙ ap (λ (k : ℕ). worded k c.args.telegram.now) c.words.ensures in
+    c.go_through.ensures ∙ ap (λ (k : ℕ). worded k c.args.telegram.now) c.words.ensures in
     is_well_formed c.args.format c.args.telegram.now
     record {
       size = c.requires.1;

@@ -11,10 +11,10 @@ use Rattle.lister.proofs.write_next.Goals as goal
 
 pub pair_from-next-requires : goal.pair_from-next-requires
 pair_from-next-requires c = let h = c.requires in record {
-      t = h.bits;
-      block_len = h.size;
-      b_bound = (omega (arith, h.scrambling), omega (arith, h.shaping));
-    }
+  t = h.bits;
+  block_len = h.size;
+  b_bound = (omega (arith, h.scrambling), omega (arith, h.shaping));
+}
 
 pub returns-in_default : goal.returns-in_default
 returns-in_default c =

@@ -45,11 +45,11 @@ go_through-requires c =
     let array : List ℕ = c.make.new.out in
     let telegram : List ℕ = let a = c.args in telegram_of (numbers_of a.format) a.block.now a.b a.esb in
     let size : length (telegram) ≡ (numbers_of c.args.format).n =
-        let a = c.args in
-        length_made (numbers_of a.format) (facts_of a.format) (sizes_of a.format) a.block.now a.b a.esb in
+    let a = c.args in
+    length_made (numbers_of a.format) (facts_of a.format) (sizes_of a.format) a.block.now a.b a.esb in
     let stands : take c.telegram_bits-n.result (array) ≡ telegram =
-        ap (λ (n : ℕ). take n (array)) c.telegram_bits-n.ensures
-        ∙ front_is (telegram) _ (array) (numbers_of c.args.format).n (size) c.make.ensures in
+    ap (λ (n : ℕ). take n (array)) c.telegram_bits-n.ensures
+    ∙ front_is (telegram) _ (array) (numbers_of c.args.format).n (size) c.make.ensures in
     let a = c.args in
     rw (stands) (record {
       t = bits_made (numbers_of a.format) (facts_of a.format) (sizes_of a.format) a.block.now a.b a.esb;
@@ -61,11 +61,11 @@ returns-in-NotWord c =
     let telegram : List ℕ = let a = c.args in telegram_of (numbers_of a.format) a.block.now a.b a.esb in
     let array : List ℕ = c.make.new.out in
     let size : length (telegram) ≡ (numbers_of c.args.format).n =
-        let a = c.args in
-        length_made (numbers_of a.format) (facts_of a.format) (sizes_of a.format) a.block.now a.b a.esb in
+    let a = c.args in
+    length_made (numbers_of a.format) (facts_of a.format) (sizes_of a.format) a.block.now a.b a.esb in
     let stands : take c.telegram_bits-n.result (array) ≡ telegram =
-        ap (λ (n : ℕ). take n (array)) c.telegram_bits-n.ensures
-        ∙ front_is (telegram) _ (array) (numbers_of c.args.format).n (size) c.make.ensures in
+    ap (λ (n : ℕ). take n (array)) c.telegram_bits-n.ensures
+    ∙ front_is (telegram) _ (array) (numbers_of c.args.format).n (size) c.make.ensures in
     let told : c.go_through.result ≡ worded (numbers_of c.args.format).words (telegram) = c.go_through.ensures ∙ ap₂ worded c.words-words.ensures (stands) in
     let a = c.args in
     let (some, is) = not_word_some _ _ c.in-NotWord.bad (sym (told) ∙ c.in-NotWord.is) in
@@ -88,12 +88,12 @@ pub copy-requires : goal.copy-requires
 copy-requires c =
     let telegram : List ℕ = let a = c.args in telegram_of (numbers_of a.format) a.block.now a.b a.esb in
     let size : length (telegram) ≡ (numbers_of c.args.format).n =
-        let a = c.args in
-        length_made (numbers_of a.format) (facts_of a.format) (sizes_of a.format) a.block.now a.b a.esb in
+    let a = c.args in
+    length_made (numbers_of a.format) (facts_of a.format) (sizes_of a.format) a.block.now a.b a.esb in
     let array : List ℕ = c.make.new.out in
     let stands : take c.telegram_bits-n.result (array) ≡ telegram =
-        ap (λ (n : ℕ). take n (array)) c.telegram_bits-n.ensures
-        ∙ front_is (telegram) _ (array) (numbers_of c.args.format).n (size) c.make.ensures in
+    ap (λ (n : ℕ). take n (array)) c.telegram_bits-n.ensures
+    ∙ front_is (telegram) _ (array) (numbers_of c.args.format).n (size) c.make.ensures in
     rw (stands) (omega (arith, size, c.requires.room))
 
 pub returns : goal.returns
@@ -101,11 +101,11 @@ returns c =
     let telegram : List ℕ = let a = c.args in telegram_of (numbers_of a.format) a.block.now a.b a.esb in
     let array : List ℕ = c.make.new.out in
     let size : length (telegram) ≡ (numbers_of c.args.format).n =
-        let a = c.args in
-        length_made (numbers_of a.format) (facts_of a.format) (sizes_of a.format) a.block.now a.b a.esb in
+    let a = c.args in
+    length_made (numbers_of a.format) (facts_of a.format) (sizes_of a.format) a.block.now a.b a.esb in
     let stands : take c.telegram_bits-n.result (array) ≡ telegram =
-        ap (λ (n : ℕ). take n (array)) c.telegram_bits-n.ensures
-        ∙ front_is (telegram) _ (array) (numbers_of c.args.format).n (size) c.make.ensures in
+    ap (λ (n : ℕ). take n (array)) c.telegram_bits-n.ensures
+    ∙ front_is (telegram) _ (array) (numbers_of c.args.format).n (size) c.make.ensures in
     let told : c.go_through.result ≡ worded (numbers_of c.args.format).words (telegram) = c.go_through.ensures ∙ ap₂ worded c.words-words.ensures (stands) in
     let a = c.args in
     let F = numbers_of a.format in

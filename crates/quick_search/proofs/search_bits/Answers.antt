@@ -30,7 +30,7 @@ loop-long-init c = (refl, stands_first Long _, stands_first Short _)
 pub step-tried-requires : goal.step-tried-requires
 step-tried-requires c =
     let long_inside : c.loop-long.long < length c.args.capture.now =
-        elim c.if-long-capture.branch [ then-long-capture w ↦ omega arith | else-long-capture+then-short-capture w ↦ omega arith ] in
+    elim c.if-long-capture.branch [ then-long-capture w ↦ omega arith | else-long-capture+then-short-capture w ↦ omega arith ] in
     let room : 830 ≤ length c.loop-long.output = omega (arith, ap length c.loop-long.invariant.0, c.requires.m_in_bounds) in
     record {
       t = c.requires.t;
@@ -56,7 +56,7 @@ loop-long-smaller-in-Next c =
     stepped Long c.args.capture.now c.loop-long.long c.args.output.now c.loop-long.output c.step-tried.result _ c.step-tried.new.output
     c.loop-long.invariant.0 c.step-tried.ensures c.in-Next.is in
     let long_inside : c.loop-long.long < length c.args.capture.now =
-        elim c.if-long-capture.branch [ then-long-capture w ↦ omega arith | else-long-capture+then-short-capture w ↦ omega arith ] in
+    elim c.if-long-capture.branch [ then-long-capture w ↦ omega arith | else-long-capture+then-short-capture w ↦ omega arith ] in
     omega (arith, told.0, long_inside)
 
 pub loop-long-preserved-in-Next : goal.loop-long-preserved-in-Next
@@ -70,7 +70,7 @@ loop-long-preserved-in-Next c =
 pub step-tried-requires-else-long-short : goal.step-tried-requires-else-long-short
 step-tried-requires-else-long-short c =
     let short_inside : c.loop-long.short < length c.args.capture.now =
-        elim c.if-long-capture.branch [ then-long-capture w ↦ omega arith | else-long-capture+then-short-capture w ↦ omega arith ] in
+    elim c.if-long-capture.branch [ then-long-capture w ↦ omega arith | else-long-capture+then-short-capture w ↦ omega arith ] in
     let room : 830 ≤ length c.loop-long.output = omega (arith, ap length c.loop-long.invariant.0, c.requires.m_in_bounds) in
     record {
       t = c.requires.t;
@@ -98,7 +98,7 @@ loop-long-smaller c =
     stepped Short c.args.capture.now c.loop-long.short c.args.output.now c.loop-long.output c.step-tried-else-long-short.result _ c.step-tried-else-long-short.new.output
     c.loop-long.invariant.0 c.step-tried-else-long-short.ensures c.in-Next-tried.is in
     let short_inside : c.loop-long.short < length c.args.capture.now =
-        elim c.if-long-capture.branch [ then-long-capture w ↦ omega arith | else-long-capture+then-short-capture w ↦ omega arith ] in
+    elim c.if-long-capture.branch [ then-long-capture w ↦ omega arith | else-long-capture+then-short-capture w ↦ omega arith ] in
     omega (arith, told.0, short_inside)
 
 pub loop-long-preserved : goal.loop-long-preserved

@@ -17,16 +17,16 @@ pub overflow_add-end : goal.overflow_add-end
 overflow_add-end c =
     let found_there : search_of c.args.capture.now ≡ Found c.in-Found.place c.in-Found.reading = sym c.search.ensures ∙ c.in-Found.is in
     let fits : c.in-Found.place + c.window_bits.result ≤ length c.args.capture.now =
-        omega
-        (arith, found_fits c.args.capture.now c.in-Found.place c.in-Found.reading (found_there), c.window_bits.ensures) in
+    omega
+    (arith, found_fits c.args.capture.now c.in-Found.place c.in-Found.reading (found_there), c.window_bits.ensures) in
     omega (arith, fits)
 
 pub slice_bounds-result-end-2 : goal.slice_bounds-result-end-2
 slice_bounds-result-end-2 c =
     let found_there : search_of c.args.capture.now ≡ Found c.in-Found.place c.in-Found.reading = sym c.search.ensures ∙ c.in-Found.is in
     let fits : c.in-Found.place + c.window_bits.result ≤ length c.args.capture.now =
-        omega
-        (arith, found_fits c.args.capture.now c.in-Found.place c.in-Found.reading (found_there), c.window_bits.ensures) in
+    omega
+    (arith, found_fits c.args.capture.now c.in-Found.place c.in-Found.reading (found_there), c.window_bits.ensures) in
     omega (arith, fits)
 
 pub returns : goal.returns

@@ -39,7 +39,7 @@ slice_bounds-summed-end c =
 pub slice_bounds-write_shaped_data-end : goal.slice_bounds-write_shaped_data-end
 slice_bounds-write_shaped_data-end c =
     let within : length c.args.block.now ≤ length c.write_summed.new.out =
-        omega (arith, block_within c.args.format c.args.block.now c.requires.block_len, c.write_summed.auto.out) in
+    omega (arith, block_within c.args.format c.args.block.now c.requires.block_len, c.write_summed.auto.out) in
     sym (length-take-le _ _ within)
 
 pub write_shaped_data-requires : goal.write_shaped_data-requires
@@ -76,24 +76,24 @@ pub slice_bounds-telegram-end : goal.slice_bounds-telegram-end
 slice_bounds-telegram-end c =
     let a = c.args in
     let buffer_next : Trying a.format a.block.now c.loop-b.b c.complete.new.telegram =
-        tried-next c.loop-esb.invariant.0 c.loop-esb.esb c.complete.new.telegram c.complete.auto.telegram c.complete.ensures in
+    tried-next c.loop-esb.invariant.0 c.loop-esb.esb c.complete.new.telegram c.complete.auto.telegram c.complete.ensures in
     omega (arith, trying_fits buffer_next, c.telegram_bits-n.ensures)
 
 pub slice_bounds-passes-end : goal.slice_bounds-passes-end
 slice_bounds-passes-end c =
     let a = c.args in
     let buffer_next : Trying a.format a.block.now c.loop-b.b c.complete.new.telegram =
-        tried-next c.loop-esb.invariant.0 c.loop-esb.esb c.complete.new.telegram c.complete.auto.telegram c.complete.ensures in
+    tried-next c.loop-esb.invariant.0 c.loop-esb.esb c.complete.new.telegram c.complete.auto.telegram c.complete.ensures in
     let within : c.telegram_bits-n.result ≤ length c.complete.new.telegram =
-        omega (arith, trying_fits buffer_next, c.telegram_bits-n.ensures) in
+    omega (arith, trying_fits buffer_next, c.telegram_bits-n.ensures) in
     sym (length-take-le _ _ within)
 
 pub passes-requires : goal.passes-requires
 passes-requires c =
     let a = c.args in
     let telegram_front : take c.telegram_bits-n.result c.complete.new.telegram ≡ telegram_of (numbers_of a.format) a.block.now c.loop-b.b c.loop-esb.esb =
-        tried-telegram c.loop-esb.invariant.0 c.loop-esb.esb c.complete.new.telegram c.complete.auto.telegram c.complete.ensures
-        c.telegram_bits-n.result c.telegram_bits-n.ensures in
+    tried-telegram c.loop-esb.invariant.0 c.loop-esb.esb c.complete.new.telegram c.complete.auto.telegram c.complete.ensures
+    c.telegram_bits-n.result c.telegram_bits-n.ensures in
     let F = numbers_of a.format in
     let A = facts_of a.format in
     let S = sizes_of a.format in
@@ -106,13 +106,13 @@ pub loop-esb-preserved : goal.loop-esb-preserved
 loop-esb-preserved c =
     let a = c.args in
     let buffer_next : Trying a.format a.block.now c.loop-b.b c.complete.new.telegram =
-        tried-next c.loop-esb.invariant.0 c.loop-esb.esb c.complete.new.telegram c.complete.auto.telegram c.complete.ensures in
+    tried-next c.loop-esb.invariant.0 c.loop-esb.esb c.complete.new.telegram c.complete.auto.telegram c.complete.ensures in
     let telegram_front : take c.telegram_bits-n.result c.complete.new.telegram ≡ telegram_of (numbers_of a.format) a.block.now c.loop-b.b c.loop-esb.esb =
-        tried-telegram c.loop-esb.invariant.0 c.loop-esb.esb c.complete.new.telegram c.complete.auto.telegram c.complete.ensures
-        c.telegram_bits-n.result c.telegram_bits-n.ensures in
+    tried-telegram c.loop-esb.invariant.0 c.loop-esb.esb c.complete.new.telegram c.complete.auto.telegram c.complete.ensures
+    c.telegram_bits-n.result c.telegram_bits-n.ensures in
     let tested : passes a.format a.block.now (1024 * c.loop-b.b + c.loop-esb.esb) ≡ c.passes.result =
-        sym (c.passes.ensures ∙ ap (made_proper a.format) telegram_front
-        ∙ pair_passes a.format a.block.now c.loop-b.b c.loop-esb.esb (omega arith)) in
+    sym (c.passes.ensures ∙ ap (made_proper a.format) telegram_front
+    ∙ pair_passes a.format a.block.now c.loop-b.b c.loop-esb.esb (omega arith)) in
     let b = c.loop-b.b in
     let esb = c.loop-esb.esb in
     let next : 1024 * b + esb + 1 ≡ 1024 * b + (esb + 1) = omega arith in (
@@ -131,11 +131,11 @@ pub returns-then-passes : goal.returns-then-passes
 returns-then-passes c =
     let a = c.args in
     let telegram_front : take c.telegram_bits-n.result c.complete.new.telegram ≡ telegram_of (numbers_of a.format) a.block.now c.loop-b.b c.loop-esb.esb =
-        tried-telegram c.loop-esb.invariant.0 c.loop-esb.esb c.complete.new.telegram c.complete.auto.telegram c.complete.ensures
-        c.telegram_bits-n.result c.telegram_bits-n.ensures in
+    tried-telegram c.loop-esb.invariant.0 c.loop-esb.esb c.complete.new.telegram c.complete.auto.telegram c.complete.ensures
+    c.telegram_bits-n.result c.telegram_bits-n.ensures in
     let tested : passes a.format a.block.now (1024 * c.loop-b.b + c.loop-esb.esb) ≡ c.passes.result =
-        sym (c.passes.ensures ∙ ap (made_proper a.format) telegram_front
-        ∙ pair_passes a.format a.block.now c.loop-b.b c.loop-esb.esb (omega arith)) in
+    sym (c.passes.ensures ∙ ap (made_proper a.format) telegram_front
+    ∙ pair_passes a.format a.block.now c.loop-b.b c.loop-esb.esb (omega arith)) in
     sym (ap pair_of (left-found c.loop-esb.invariant.2 (omega arith) (tested ∙ c.if-passes.true))
     ∙ pair_searched c.loop-b.b c.loop-esb.esb (omega arith))
 

@@ -30,8 +30,7 @@ tested_of format d B e d' w answer front tail_is h = sym (h ∙ ap₂ (λ (x y :
 pub loop-e-init : goal.loop-e-init
 loop-e-init c =
     let a = c.args in
-    let shaped_in : List ℕ = take ((numbers_of a.format).n - 110) c.first_tail-tail.new.telegram in
-    (
+    let shaped_in : List ℕ = take ((numbers_of a.format).n - 110) c.first_tail-tail.new.telegram in (
       refl,
       record {
         front = refl;
@@ -46,7 +45,7 @@ passes-requires c =
     let a = c.args in
     let shaped_in : List ℕ = take ((numbers_of a.format).n - 110) c.first_tail-tail.new.telegram in
     let bits_shaped : T (all_bits shaped_in) =
-        subst (λ (l : List ℕ). T (all_bits l)) (sym c.first_tail-tail.ensures.telegram_unchanged) c.requires.t in
+    subst (λ (l : List ℕ). T (all_bits l)) (sym c.first_tail-tail.ensures.telegram_unchanged) c.requires.t in
     record {
       format_in_bounds = omega (arith, c.requires.format_in_bounds, c.loop-e.invariant.0, c.first_tail-tail.auto.telegram);
       t = subst (λ (x : List ℕ). T (all_bits x)) (sym c.loop-e.invariant.1.front) bits_shaped;
@@ -57,9 +56,9 @@ returns-then-passes c =
     let a = c.args in
     let shaped_in : List ℕ = take ((numbers_of a.format).n - 110) c.first_tail-tail.new.telegram in
     let tested : completes a.format shaped_in a.b c.loop-e.e ≡ c.passes.result =
-        tested_of a.format shaped_in a.b c.loop-e.e _ _ c.passes.result c.loop-e.invariant.1.front c.loop-e.invariant.1.tail_is c.passes.ensures.value in
+    tested_of a.format shaped_in a.b c.loop-e.e _ _ c.passes.result c.loop-e.invariant.1.front c.loop-e.invariant.1.tail_is c.passes.ensures.value in
     let answered : shaping_from a.format (take ((numbers_of a.format).n - 110) a.telegram.now) a.b a.esb ≡ shaping_from a.format shaped_in a.b a.esb =
-        ap (λ (d : List ℕ). shaping_from a.format d a.b a.esb) (sym c.first_tail-tail.ensures.telegram_unchanged) in
+    ap (λ (d : List ℕ). shaping_from a.format d a.b a.esb) (sym c.first_tail-tail.ensures.telegram_unchanged) in
     sym (ap shaping_at (answered ∙ left-found c.loop-e.invariant.1.rest (omega arith) (tested ∙ c.if-passes.true)))
 
 pub loop-e-preserved : goal.loop-e-preserved
@@ -67,9 +66,9 @@ loop-e-preserved c =
     let a = c.args in
     let shaped_in : List ℕ = take ((numbers_of a.format).n - 110) c.first_tail-tail.new.telegram in
     let bits_shaped : T (all_bits shaped_in) =
-        subst (λ (l : List ℕ). T (all_bits l)) (sym c.first_tail-tail.ensures.telegram_unchanged) c.requires.t in
+    subst (λ (l : List ℕ). T (all_bits l)) (sym c.first_tail-tail.ensures.telegram_unchanged) c.requires.t in
     let tested : completes a.format shaped_in a.b c.loop-e.e ≡ c.passes.result =
-        tested_of a.format shaped_in a.b c.loop-e.e _ _ c.passes.result c.loop-e.invariant.1.front c.loop-e.invariant.1.tail_is c.passes.ensures.value in
+    tested_of a.format shaped_in a.b c.loop-e.e _ _ c.passes.result c.loop-e.invariant.1.front c.loop-e.invariant.1.tail_is c.passes.ensures.value in
     let F = numbers_of a.format in
     let e = c.loop-e.e in (
       c.passes.auto.telegram ∙ c.loop-e.invariant.0,
@@ -86,5 +85,5 @@ returns c =
     let a = c.args in
     let shaped_in : List ℕ = take ((numbers_of a.format).n - 110) c.first_tail-tail.new.telegram in
     let answered : shaping_from a.format (take ((numbers_of a.format).n - 110) a.telegram.now) a.b a.esb ≡ shaping_from a.format shaped_in a.b a.esb =
-        ap (λ (d : List ℕ). shaping_from a.format d a.b a.esb) (sym c.first_tail-tail.ensures.telegram_unchanged) in
+    ap (λ (d : List ℕ). shaping_from a.format d a.b a.esb) (sym c.first_tail-tail.ensures.telegram_unchanged) in
     sym (ap shaping_at (answered ∙ left-none c.loop-e.invariant.1.rest (omega arith)))

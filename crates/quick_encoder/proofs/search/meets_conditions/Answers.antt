@@ -64,11 +64,10 @@ slice_bounds-conditions-end-2 c =
     sym (length_completed c.args.format _ c.telegram_bits-n.ensures _ c.requires.format_in_bounds c.args.tail _ c.write_tail.ensures)
 
 pub conditions-requires : goal.conditions-requires
-conditions-requires c =
-    (
-      bits_completed c.args.format _ c.telegram_bits-n.ensures _ c.requires.format_in_bounds c.args.tail _ c.write_tail.ensures c.requires.t,
-      sym (slice_bounds-conditions-end-2 c) ∙ c.telegram_bits-n.ensures,
-    )
+conditions-requires c = (
+  bits_completed c.args.format _ c.telegram_bits-n.ensures _ c.requires.format_in_bounds c.args.tail _ c.write_tail.ensures c.requires.t,
+  sym (slice_bounds-conditions-end-2 c) ∙ c.telegram_bits-n.ensures,
+)
 
 pub returns : goal.returns
 returns c =

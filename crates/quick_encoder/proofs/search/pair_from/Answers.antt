@@ -52,7 +52,7 @@ slice_bounds-summed-end c =
 pub slice_bounds-shaping_for-end : goal.slice_bounds-shaping_for-end
 slice_bounds-shaping_for-end c =
     let within : length c.args.block.now ≤ length c.write_summed.new.out =
-        omega (arith, block_within c.args.format c.args.block.now c.requires.block_len, c.write_summed.auto.out) in
+    omega (arith, block_within c.args.format c.args.block.now c.requires.block_len, c.write_summed.auto.out) in
     sym (length-take-le _ _ within)
 
 pub shaping_for-found-requires : goal.shaping_for-found-requires
@@ -70,18 +70,17 @@ pub returns-in-At : goal.returns-in-At
 returns-in-At c =
     let a = c.args in
     let answered = answered_of a.format a.block.now c.requires.block_len _ c.write_summed.new.out c.write_summed.ensures
-        c.loop-scrambling.scrambling c.loop-scrambling.from c.shaping_for-found.result c.shaping_for-found.ensures in
+    c.loop-scrambling.scrambling c.loop-scrambling.from c.shaping_for-found.result c.shaping_for-found.ensures in
     let e = c.in-At.shaping in
     let pair = pair_of_lem a.format a.block.now (omega arith) c.loop-scrambling.invariant.1 c.loop-scrambling.invariant.2 e
-        (shaping_at_lem _ e (sym answered ∙ c.in-At.is)) in
+    (shaping_at_lem _ e (sym answered ∙ c.in-At.is)) in
     sym (ap pair_of pair.1 ∙ pair_searched c.loop-scrambling.scrambling e pair.0)
 
 pub loop-scrambling-preserved : goal.loop-scrambling-preserved
 loop-scrambling-preserved c =
     let a = c.args in
     let answered = answered_of a.format a.block.now c.requires.block_len _ c.write_summed.new.out c.write_summed.ensures
-        c.loop-scrambling.scrambling c.loop-scrambling.from c.shaping_for-found.result c.shaping_for-found.ensures in
-    (
+    c.loop-scrambling.scrambling c.loop-scrambling.from c.shaping_for-found.result c.shaping_for-found.ensures in (
       c.shaping_for-found.auto.telegram ∙ c.loop-scrambling.invariant.0,
       omega arith,
       next-scrambling a.format a.block.now (omega arith) c.loop-scrambling.invariant.1 c.loop-scrambling.invariant.2

@@ -44,7 +44,7 @@ slice_bounds-within-end-2 c =
     let shaped_of : List ℕ = shaped (blocks (numbers_of a.format)) (scrambled a.b a.summed.now) in
     let shaped_size : length shaped_of ≡ 11 * blocks (numbers_of a.format) = length-shaped (blocks (numbers_of a.format)) (scrambled a.b a.summed.now) in
     let front : take (c.telegram_bits-n.result - 110) c.write_shaped_data.new.telegram ≡ shaped_of =
-        in_front a.format c.telegram_bits-n.result shaped_of _ _ c.telegram_bits-n.ensures shaped_size c.write_shaped_data.ensures in
+    in_front a.format c.telegram_bits-n.result shaped_of _ _ c.telegram_bits-n.ensures shaped_size c.write_shaped_data.ensures in
     sym (ap length front ∙ shaped_size ∙ omega (arith, (sizes_of c.args.format).n_is))
 
 pub within-requires : goal.within-requires
@@ -53,8 +53,7 @@ within-requires c =
     let shaped_of : List ℕ = shaped (blocks (numbers_of a.format)) (scrambled a.b a.summed.now) in
     let shaped_size : length shaped_of ≡ 11 * blocks (numbers_of a.format) = length-shaped (blocks (numbers_of a.format)) (scrambled a.b a.summed.now) in
     let front : take (c.telegram_bits-n.result - 110) c.write_shaped_data.new.telegram ≡ shaped_of =
-        in_front a.format c.telegram_bits-n.result shaped_of _ _ c.telegram_bits-n.ensures shaped_size c.write_shaped_data.ensures in
-    (
+    in_front a.format c.telegram_bits-n.result shaped_of _ _ c.telegram_bits-n.ensures shaped_size c.write_shaped_data.ensures in (
       subst (λ (l : List ℕ). T (all_bits l)) (sym front) (bits_shaped (blocks (numbers_of a.format)) (scrambled a.b a.summed.now)),
       ap length front ∙ shaped_size,
     )
@@ -65,7 +64,7 @@ returns-then-not-within c =
     let shaped_of : List ℕ = shaped (blocks (numbers_of a.format)) (scrambled a.b a.summed.now) in
     let shaped_size : length shaped_of ≡ 11 * blocks (numbers_of a.format) = length-shaped (blocks (numbers_of a.format)) (scrambled a.b a.summed.now) in
     let front : take (c.telegram_bits-n.result - 110) c.write_shaped_data.new.telegram ≡ shaped_of =
-        in_front a.format c.telegram_bits-n.result shaped_of _ _ c.telegram_bits-n.ensures shaped_size c.write_shaped_data.ensures in
+    in_front a.format c.telegram_bits-n.result shaped_of _ _ c.telegram_bits-n.ensures shaped_size c.write_shaped_data.ensures in
     let over = ap (data_within a.format) (sym front) ∙ sym c.within.ensures ∙ c.if-not-within.true in
     sym (ap shaping_at (shaping-none a.format shaped_of a.b a.esb (omega (arith, c.requires.b_bound))
     λ e below. run_drops a.format shaped_of a.b e shaped_size over))
@@ -76,7 +75,7 @@ first_shaping-requires c =
     let shaped_of : List ℕ = shaped (blocks (numbers_of a.format)) (scrambled a.b a.summed.now) in
     let shaped_size : length shaped_of ≡ 11 * blocks (numbers_of a.format) = length-shaped (blocks (numbers_of a.format)) (scrambled a.b a.summed.now) in
     let kept : take ((numbers_of a.format).n - 110) c.write_shaped_data.new.telegram ≡ shaped_of =
-        in_front a.format _ shaped_of _ _ refl shaped_size c.write_shaped_data.ensures in
+    in_front a.format _ shaped_of _ _ refl shaped_size c.write_shaped_data.ensures in
     record {
       format_in_bounds = omega (arith, c.requires.format_in_bounds, c.write_shaped_data.auto.telegram);
       t = subst (λ (l : List ℕ). T (all_bits l)) (sym kept) (bits_shaped (blocks (numbers_of a.format)) (scrambled a.b a.summed.now));
@@ -89,5 +88,5 @@ returns c =
     let shaped_of : List ℕ = shaped (blocks (numbers_of a.format)) (scrambled a.b a.summed.now) in
     let shaped_size : length shaped_of ≡ 11 * blocks (numbers_of a.format) = length-shaped (blocks (numbers_of a.format)) (scrambled a.b a.summed.now) in
     let kept : take ((numbers_of a.format).n - 110) c.write_shaped_data.new.telegram ≡ shaped_of =
-        in_front a.format _ shaped_of _ _ refl shaped_size c.write_shaped_data.ensures in
+    in_front a.format _ shaped_of _ _ refl shaped_size c.write_shaped_data.ensures in
     c.first_shaping.ensures ∙ ap (λ (d : List ℕ). shaping_at (shaping_from a.format d a.b a.esb)) kept

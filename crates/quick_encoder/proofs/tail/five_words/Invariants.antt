@@ -11,7 +11,6 @@ use Rattle.quick_encoder.proofs.tail.five_words.Given as goal
 abbrev pub last_words : ℕ → ℕ → Bool
 last_words x k = all_words k (bits_of (11 * k) x)
 
-
 abbrev pub invariant-loop-left : goal.invariant-loop-left
 invariant-loop-left l = (l.left ≤ 5) × (all_words 5 (bits_of 55 l.x) ≡ last_words l.x l.left)
 

@@ -60,11 +60,11 @@ pub returns-in-First : goal.returns-in-First
 returns-in-First c =
     let controlled : let a = c.args in same (control_of (numbers_of a.format) a.telegram.now) control ≡ true = sym c.has_control.ensures ∙ c.if-not-has_control.false in
     let words_in_table : all_words c.words-words.result c.args.telegram.now ≡ true =
-        let b = c.args.telegram.now in
-        whole_all b c.words-words.result (sym c.unshape-answer.ensures.value ∙ c.in_default.is) in
+    let b = c.args.telegram.now in
+    whole_all b c.words-words.result (sym c.unshape-answer.ensures.value ∙ c.in_default.is) in
     let all_worded : let a = c.args in all_words (numbers_of a.format).words a.telegram.now ≡ true =
-        let b = c.args.telegram.now in
-        ap (λ (k : ℕ). all_words k b) (sym c.words-words.ensures) ∙ words_in_table in
+    let b = c.args.telegram.now in
+    ap (λ (k : ℕ). all_words k b) (sym c.words-words.ensures) ∙ words_in_table in
     let a = c.args in
     condition_refused a.asked a.format a.t a.flipped a.telegram.now a.output.now (controlled) (all_worded)
     c.in-First.refusal (sym c.first_failing.ensures ∙ c.in-First.is)
@@ -81,8 +81,8 @@ slice_bounds-write_user_bits-end c =
 pub write_user_bits-requires : goal.write_user_bits-requires
 write_user_bits-requires c =
     let words_in_table : all_words c.words-words.result c.args.telegram.now ≡ true =
-        let b = c.args.telegram.now in
-        whole_all b c.words-words.result (sym c.unshape-answer.ensures.value ∙ c.in_default.is) in
+    let b = c.args.telegram.now in
+    whole_all b c.words-words.result (sym c.unshape-answer.ensures.value ∙ c.in_default.is) in
     let filled : let b = c.args.telegram.now in c.unshape-answer.new.out ≡ unshaped c.words-words.result b ++ drop (10 * c.words-words.result) zeros = c.unshape-answer.ensures.out_after (holds _ (words_in_table)) in
     let a = c.args in
     let F = numbers_of a.format in
@@ -101,13 +101,13 @@ pub returns : goal.returns
 unfolding reading_of
 returns c =
     let words_in_table : all_words c.words-words.result c.args.telegram.now ≡ true =
-        let b = c.args.telegram.now in
-        whole_all b c.words-words.result (sym c.unshape-answer.ensures.value ∙ c.in_default.is) in
+    let b = c.args.telegram.now in
+    whole_all b c.words-words.result (sym c.unshape-answer.ensures.value ∙ c.in_default.is) in
     let filled : let b = c.args.telegram.now in c.unshape-answer.new.out ≡ unshaped c.words-words.result b ++ drop (10 * c.words-words.result) zeros = c.unshape-answer.ensures.out_after (holds _ (words_in_table)) in
     let controlled : let a = c.args in same (control_of (numbers_of a.format) a.telegram.now) control ≡ true = sym c.has_control.ensures ∙ c.if-not-has_control.false in
     let all_worded : let a = c.args in all_words (numbers_of a.format).words a.telegram.now ≡ true =
-        let b = c.args.telegram.now in
-        ap (λ (k : ℕ). all_words k b) (sym c.words-words.ensures) ∙ words_in_table in
+    let b = c.args.telegram.now in
+    ap (λ (k : ℕ). all_words k b) (sym c.words-words.ensures) ∙ words_in_table in
     let a = c.args in
     let F = numbers_of a.format in
     let b = a.telegram.now in

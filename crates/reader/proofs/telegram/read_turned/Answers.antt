@@ -30,25 +30,25 @@ slice_bounds-telegram-end c =
 pub slice_bounds-read_telegram-end : goal.slice_bounds-read_telegram-end
 slice_bounds-read_telegram-end c =
     let front : let a = c.args in take c.telegram_bits-n.result c.telegram_in-flipped.new.out ≡ telegram_in (numbers_of a.format) a.t a.window.now =
-        let a = c.args in
-        let F = numbers_of a.format in
-        found_front F a.t a.window.now c.requires.format_in_bounds c.telegram_bits-n.result c.telegram_bits-n.ensures
-        c.telegram_in-flipped.new.out (drop F.n (replicate 1023 0)) c.telegram_in-flipped.ensures.out_after in
+    let a = c.args in
+    let F = numbers_of a.format in
+    found_front F a.t a.window.now c.requires.format_in_bounds c.telegram_bits-n.result c.telegram_bits-n.ensures
+    c.telegram_in-flipped.new.out (drop F.n (replicate 1023 0)) c.telegram_in-flipped.ensures.out_after in
     let size : let a = c.args in length (take c.telegram_bits-n.result c.telegram_in-flipped.new.out) ≡ (numbers_of a.format).n =
-        let a = c.args in
-        ap length (front) ∙ length_found (numbers_of a.format) a.t a.window.now c.requires.format_in_bounds in
+    let a = c.args in
+    ap length (front) ∙ length_found (numbers_of a.format) a.t a.window.now c.requires.format_in_bounds in
     c.telegram_bits-n.ensures ∙ sym (size)
 
 pub read_telegram-requires : goal.read_telegram-requires
 read_telegram-requires c =
     let front : let a = c.args in take c.telegram_bits-n.result c.telegram_in-flipped.new.out ≡ telegram_in (numbers_of a.format) a.t a.window.now =
-        let a = c.args in
-        let F = numbers_of a.format in
-        found_front F a.t a.window.now c.requires.format_in_bounds c.telegram_bits-n.result c.telegram_bits-n.ensures
-        c.telegram_in-flipped.new.out (drop F.n (replicate 1023 0)) c.telegram_in-flipped.ensures.out_after in
+    let a = c.args in
+    let F = numbers_of a.format in
+    found_front F a.t a.window.now c.requires.format_in_bounds c.telegram_bits-n.result c.telegram_bits-n.ensures
+    c.telegram_in-flipped.new.out (drop F.n (replicate 1023 0)) c.telegram_in-flipped.ensures.out_after in
     let size : let a = c.args in length (take c.telegram_bits-n.result c.telegram_in-flipped.new.out) ≡ (numbers_of a.format).n =
-        let a = c.args in
-        ap length (front) ∙ length_found (numbers_of a.format) a.t a.window.now c.requires.format_in_bounds in
+    let a = c.args in
+    ap length (front) ∙ length_found (numbers_of a.format) a.t a.window.now c.requires.format_in_bounds in
     let a = c.args in record {
       t = rw (front) (bits_found (numbers_of a.format) a.t a.window.now c.requires.t);
       telegram_len = size;
@@ -59,10 +59,10 @@ pub returns : goal.returns
 unfolding read_at_turn
 returns c =
     let front : let a = c.args in take c.telegram_bits-n.result c.telegram_in-flipped.new.out ≡ telegram_in (numbers_of a.format) a.t a.window.now =
-        let a = c.args in
-        let F = numbers_of a.format in
-        found_front F a.t a.window.now c.requires.format_in_bounds c.telegram_bits-n.result c.telegram_bits-n.ensures
-        c.telegram_in-flipped.new.out (drop F.n (replicate 1023 0)) c.telegram_in-flipped.ensures.out_after in
+    let a = c.args in
+    let F = numbers_of a.format in
+    found_front F a.t a.window.now c.requires.format_in_bounds c.telegram_bits-n.result c.telegram_bits-n.ensures
+    c.telegram_in-flipped.new.out (drop F.n (replicate 1023 0)) c.telegram_in-flipped.ensures.out_after in
     let a = c.args in
     ap₂ (λ (f : Bool) (b : List ℕ). read_telegram a.asked a.format a.t f b a.output.now) (sym c.telegram_in-flipped.ensures.value) (sym (front))
     ∙ c.read_telegram.ensures

@@ -50,8 +50,8 @@ returns-then-not-ends_agree c =
 pub slice_bounds-divisible-end : goal.slice_bounds-divisible-end
 slice_bounds-divisible-end c =
     let first_size : let w = c.args.window.now in c.telegram_bits-n.result ≡ length (take c.telegram_bits-n.result w) =
-        let w = c.args.window.now in
-        sym (length-take-le c.telegram_bits-n.result w (omega arith)) in
+    let w = c.args.window.now in
+    sym (length-take-le c.telegram_bits-n.result w (omega arith)) in
     first_size
 
 pub divisible-requires : goal.divisible-requires
@@ -64,9 +64,9 @@ returns-then-not-divisible c =
     let room : let a = c.args in (numbers_of a.format).m ≤ length a.output.now = omega arith in
     let agree : let a = c.args in ends_agree (numbers_of a.format) a.window.now ≡ true = sym c.ends_agree.ensures ∙ c.if-not-ends_agree.false in
     let tested : let a = c.args in divisible (numbers_of a.format) (take (numbers_of a.format).n a.window.now) ≡ c.divisible.result =
-        let a = c.args in
-        ap (λ (n : ℕ). divisible (numbers_of a.format) (take n a.window.now)) (sym c.telegram_bits-n.ensures)
-        ∙ sym c.divisible.ensures in
+    let a = c.args in
+    ap (λ (n : ℕ). divisible (numbers_of a.format) (take n a.window.now)) (sym c.telegram_bits-n.ensures)
+    ∙ sym c.divisible.ensures in
     let a = c.args in
     divisible_refused a.asked a.format a.window.now a.output.now c.requires.window_len (bits) (room) (agree)
     (tested ∙ c.if-not-divisible.true)
@@ -74,8 +74,8 @@ returns-then-not-divisible c =
 pub slice_bounds-remainder_f-end : goal.slice_bounds-remainder_f-end
 slice_bounds-remainder_f-end c =
     let first_size : let w = c.args.window.now in c.telegram_bits-n.result ≡ length (take c.telegram_bits-n.result w) =
-        let w = c.args.window.now in
-        sym (length-take-le c.telegram_bits-n.result w (omega arith)) in
+    let w = c.args.window.now in
+    sym (length-take-le c.telegram_bits-n.result w (omega arith)) in
     first_size
 
 pub remainder_f-rest-requires : goal.remainder_f-rest-requires
@@ -88,9 +88,9 @@ returns-in_default c =
     let room : let a = c.args in (numbers_of a.format).m ≤ length a.output.now = omega arith in
     let agree : let a = c.args in ends_agree (numbers_of a.format) a.window.now ≡ true = sym c.ends_agree.ensures ∙ c.if-not-ends_agree.false in
     let tested : let a = c.args in divisible (numbers_of a.format) (take (numbers_of a.format).n a.window.now) ≡ c.divisible.result =
-        let a = c.args in
-        ap (λ (n : ℕ). divisible (numbers_of a.format) (take n a.window.now)) (sym c.telegram_bits-n.ensures)
-        ∙ sym c.divisible.ensures in
+    let a = c.args in
+    ap (λ (n : ℕ). divisible (numbers_of a.format) (take n a.window.now)) (sym c.telegram_bits-n.ensures)
+    ∙ sym c.divisible.ensures in
     let a = c.args in
     let found =
     turn_is a.format a.window.now c.requires.t c.telegram_bits-n.result c.remainder_f-rest.result c.turn.result
@@ -118,9 +118,9 @@ returns c =
     let room : let a = c.args in (numbers_of a.format).m ≤ length a.output.now = omega arith in
     let agree : let a = c.args in ends_agree (numbers_of a.format) a.window.now ≡ true = sym c.ends_agree.ensures ∙ c.if-not-ends_agree.false in
     let tested : let a = c.args in divisible (numbers_of a.format) (take (numbers_of a.format).n a.window.now) ≡ c.divisible.result =
-        let a = c.args in
-        ap (λ (n : ℕ). divisible (numbers_of a.format) (take n a.window.now)) (sym c.telegram_bits-n.ensures)
-        ∙ sym c.divisible.ensures in
+    let a = c.args in
+    ap (λ (n : ℕ). divisible (numbers_of a.format) (take n a.window.now)) (sym c.telegram_bits-n.ensures)
+    ∙ sym c.divisible.ensures in
     let a = c.args in
     let found =
     turn_is a.format a.window.now c.requires.t c.telegram_bits-n.result c.remainder_f-rest.result c.turn.result

@@ -35,18 +35,18 @@ bounds-out-b109 c =
 pub slice_bounds-flip-end-then-out-b109-eq1 : goal.slice_bounds-flip-end-then-out-b109-eq1
 slice_bounds-flip-end-then-out-b109-eq1 c =
     let front : let a = c.args in take c.telegram_bits-n.result c.turn_back.new.out ≡ turned_back (numbers_of a.format) a.t a.window.now =
-        let a = c.args in
-        front_is (numbers_of a.format) a.t a.window.now c.requires.format_in_bounds c.telegram_bits-n.result c.telegram_bits-n.ensures
-        a.out.now c.turn_back.new.out c.turn_back.ensures in
+    let a = c.args in
+    front_is (numbers_of a.format) a.t a.window.now c.requires.format_in_bounds c.telegram_bits-n.result c.telegram_bits-n.ensures
+    a.out.now c.turn_back.new.out c.turn_back.ensures in
     let a = c.args in
     sym (ap length (front) ∙ length_back (numbers_of a.format) a.t a.window.now c.requires.format_in_bounds ∙ sym c.telegram_bits-n.ensures)
 
 pub flip-requires : goal.flip-requires
 flip-requires c =
     let front : let a = c.args in take c.telegram_bits-n.result c.turn_back.new.out ≡ turned_back (numbers_of a.format) a.t a.window.now =
-        let a = c.args in
-        front_is (numbers_of a.format) a.t a.window.now c.requires.format_in_bounds c.telegram_bits-n.result c.telegram_bits-n.ensures
-        a.out.now c.turn_back.new.out c.turn_back.ensures in
+    let a = c.args in
+    front_is (numbers_of a.format) a.t a.window.now c.requires.format_in_bounds c.telegram_bits-n.result c.telegram_bits-n.ensures
+    a.out.now c.turn_back.new.out c.turn_back.ensures in
     let a = c.args in
     rw (front) (bits_back (numbers_of a.format) a.t a.window.now c.requires.t)
 
