@@ -1,7 +1,7 @@
 -- `captures::search_bits` meets its contract. The loop's invariant: read accepts at none of the places passed, and the output is as it was.
 -- Assumes nothing.
 use mathlib.Core.Path.{◌≡◌, refl, sym, ap, ◌∙◌}
-use Prim.Native.Nat.{◌-◌, ◌≤◌}
+use Prim.Native.Nat.{◌≤◌}
 use native.Mathlib.Omega.{arith}
 use lib.ListN.{length}
 use Rattle.formats.specs.declared.format.Format.TheVariants.{Long}

@@ -1,7 +1,7 @@
 -- `encoder::search::first_pair` meets its contract. The invariants of the loops over B and over esb: the pairs before the next have failed, and
 -- within one B its shaped data stands in front of the buffer. The labelled loop has one turn. Assumes nothing.
 use mathlib.Core.Path.{◌≡◌, sym, ap, ◌∙◌}
-use Prim.Native.Nat.{◌+◌, ◌*◌, ◌-◌, ◌≤◌}
+use Prim.Native.Nat.{◌+◌, ◌*◌, ◌≤◌}
 use native.Mathlib.Omega.{arith}
 use lib.ListN.{length, take}
 use lib.Seq.{length-take-le}

@@ -2,7 +2,7 @@
 -- words that are left. Assumes nothing.
 use mathlib.Core.Path.{◌≡◌}
 use mathlib.Core.Bool.{Bool}
-use Prim.Native.Nat.{ℕ, ◌-◌, ◌*◌, ◌≤◌}
+use Prim.Native.Nat.{ℕ, ◌*◌, ◌≤◌}
 use Rattle.bits.specs.Bits.{bits_of}
 use Rattle.telegrams.specs.Fields.{all_words}
 use Rattle.quick_encoder.proofs.tail.five_words.Given as goal
