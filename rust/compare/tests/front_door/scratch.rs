@@ -43,7 +43,8 @@ const RT: &str = r#"#!/bin/sh
 PATH=$PATH:/usr/bin:/bin
 here=$(cd "$(dirname "$0")" && pwd)
 step=$1
-name=$2
+name=${PWD##*/}
+[ "$step" = version ] || cd ../..
 case $step in
     version) echo "kit of the tests" ;;
     check)
