@@ -1,9 +1,11 @@
 // Reads a block of user bits from standard input, characters 0 and 1, and writes the first hundred pairs of scrambling
 // and extra shaping bits whose telegrams are proper, in counting order, and then whether there are more (document 02,
 // No. 9).
+#![tactic(auto)]
+
 use formats::format::Long;
-use libc::{STDERR_FILENO, STDOUT_FILENO};
 use lister::{Listed, Onward};
+use std::io;
 use texts::reading::Progress;
 use texts::{front, input, output};
 
@@ -11,33 +13,26 @@ use texts::{front, input, output};
 const LINES: usize = 100;
 
 // The line of a pair.
-fn print_pair(b: u16, esb: u16) {
-    io::print_decimal(STDOUT_FILENO, b as u64);
-    io::write_all(STDOUT_FILENO, b" ");
-    io::print_decimal(STDOUT_FILENO, esb as u64);
-    output::end_line();
+fn print_pair(rt: &impl Print, b: u16, esb: u16) -> io::Result<()> {
+    println!(rt; "{b} {esb}")
 }
 
 // The last line where every pair is written.
-fn print_end() {
-    io::write_all(STDOUT_FILENO, b"end\n");
+fn print_end(rt: &impl Print) -> io::Result<()> {
+    println!(rt; "end")
 }
 
 // The last line where another pair is left.
-fn print_more() {
-    io::write_all(STDOUT_FILENO, b"more\n");
+fn print_more(rt: &impl Print) -> io::Result<()> {
+    println!(rt; "more")
 }
 
-// The one line of a refused block, and what is wrong on standard error. Every byte that was read is a bit, and there is
-// room for a telegram: only the number of bits is refused.
-fn print_refused(count: usize) {
-    output::print_bad();
-    io::write_all(
-        STDERR_FILENO,
-        b"balise: a block has 830 or 210 bits, and this has ",
-    );
-    io::print_decimal(STDERR_FILENO, count as u64);
-    io::write_all(STDERR_FILENO, b"\n");
+// The one line of a refused block, and what is wrong on standard error, which is left out where it cannot be written.
+// Every byte that was read is a bit, and there is room for a telegram: only the number of bits is refused.
+fn print_refused(rt: &(impl Print + Eprint), count: usize) -> io::Result<()> {
+    output::print_bad(rt)?;
+    let _ = eprintln!(rt; "balise: a block has 830 or 210 bits, and this has {count}");
+    Ok(())
 }
 
 // The first pair from B and esb on.
@@ -59,44 +54,43 @@ fn pair_after(block: &[u8], b: u16, esb: u16) -> Listed {
 }
 
 // Writes a pair, and answers with the next one. After another answer there is none: it stays.
-fn list_pair(block: &[u8], answer: Listed) -> Listed {
+fn list_pair(rt: &impl Print, block: &[u8], answer: Listed) -> io::Result<Listed> {
     match answer {
         Listed::Pair {
             format: _,
             scrambling,
             shaping,
         } => {
-            print_pair(scrambling, shaping);
-            pair_after(block, scrambling, shaping)
+            print_pair(rt, scrambling, shaping)?;
+            Ok(pair_after(block, scrambling, shaping))
         }
-        _ => answer,
+        _ => Ok(answer),
     }
 }
 
 // Writes the first hundred pairs, and answers with what comes after them.
-fn list_pairs(block: &[u8]) -> Listed {
+fn list_pairs(rt: &impl Print, block: &[u8]) -> io::Result<Listed> {
     let mut answer = pair_from(block, 0, 0);
     for _ in 0..LINES {
-        answer = list_pair(block, answer);
+        answer = list_pair(rt, block, answer)?;
     }
-    answer
+    Ok(answer)
 }
 
 // All lines.
-fn report(block: &[u8]) {
-    let after = list_pairs(block);
+fn report(rt: &(impl Print + Eprint), block: &[u8]) -> io::Result<()> {
+    let after = list_pairs(rt, block)?;
     match after {
-        Listed::Pair { .. } => print_more(),
-        Listed::NoMore => print_end(),
-        Listed::Refused(_) => print_refused(block.len()),
+        Listed::Pair { .. } => print_more(rt),
+        Listed::NoMore => print_end(rt),
+        Listed::Refused(_) => print_refused(rt, block.len()),
     }
 }
 
-fn main() {
+fn main(rt: HostRuntime) -> io::Result<()> {
     let mut block = [0u8; Long::M];
-    let Progress::Count(count) = input::read_text(&mut block) else {
-        output::print_bad();
-        return;
+    let Progress::Count(count) = input::read_text(&rt, &mut block) else {
+        return output::print_bad(&rt);
     };
-    report(front(&block, count));
+    report(&rt, front(&block, count))
 }

@@ -1,6 +1,9 @@
 // Reads a window of a telegram that need only be well-formed (document 02, No. 2), and writes what the reader finds in it.
-use reader::Asked;
+#![tactic(auto)]
 
-fn main() {
-    readings::read_window(Asked::WellFormed, b"read-well-formed");
+use reader::Asked;
+use std::io;
+
+fn main(rt: HostRuntime) -> io::Result<()> {
+    readings::read_window(&rt, Asked::WellFormed, b"read-well-formed")
 }

@@ -1,6 +1,9 @@
 // Reads a window of a proper telegram from standard input, characters 0 and 1, and writes what the reader finds in it.
-use reader::Asked;
+#![tactic(auto)]
 
-fn main() {
-    readings::read_window(Asked::Proper, b"read");
+use reader::Asked;
+use std::io;
+
+fn main(rt: HostRuntime) -> io::Result<()> {
+    readings::read_window(&rt, Asked::Proper, b"read")
 }

@@ -1,32 +1,34 @@
 // Reads a capture from standard input, characters 0 and 1, and writes the first place at which a window is read
 // (document 01, "Bench sheet").
+#![tactic(auto)]
+
 use captures::Capture;
 use formats::format::Long;
+use std::io;
 use texts::reading::Progress;
 use texts::{front, input, output};
 
 // Lines three and four.
-fn report(capture: &[u8]) {
+fn report(rt: &impl Print, capture: &[u8]) -> io::Result<()> {
     let mut user_bits = [0u8; Long::M];
     let answer = quick_search::search_read(capture, &mut user_bits);
     match answer {
         Capture::Found { place, reading } => {
             let format = reading.format;
-            output::print_format(format);
-            output::print_field(b"place", place as u64);
-            readings::print_reading(reading, &user_bits);
+            output::print_format(rt, format)?;
+            output::print_field(rt, b"place", place as u64)?;
+            readings::print_reading(rt, reading, &user_bits)
         }
-        Capture::Refused(_) => output::print_none(),
+        Capture::Refused(_) => output::print_none(rt),
     }
 }
 
-fn main() {
-    output::print_header(b"capture");
+fn main(rt: HostRuntime) -> io::Result<()> {
+    output::print_header(&rt, b"capture")?;
     let mut capture = [0u8; captures::LIMIT];
-    let Progress::Count(count) = input::read_text(&mut capture) else {
-        output::print_bad();
-        return;
+    let Progress::Count(count) = input::read_text(&rt, &mut capture) else {
+        return output::print_bad(&rt);
     };
-    output::print_count(count);
-    report(front(&capture, count));
+    output::print_count(&rt, count)?;
+    report(&rt, front(&capture, count))
 }

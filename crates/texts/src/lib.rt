@@ -1,5 +1,7 @@
 // The text of the bench's programs: bits read from characters and written as characters, numbers read from their
 // digits, and the lines that the programs print.
+#![tactic(auto)]
+
 ghost use Rattle.std.specs.Prelude.{◌≡◌, take};
 
 pub mod decimal;

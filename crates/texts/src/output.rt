@@ -1,118 +1,111 @@
-// The lines that the programs print, to standard output. No contract can say what is written.
-ghost use Rattle.std.specs.Prelude.{◌≡◌, min, length};
+// The lines that the programs print, to standard output. No contract can say what is written. A line that cannot be written
+// is an error.
+ghost use Rattle.std.specs.Prelude.{◌≡◌, min, length, IfOk};
 
 use crate::front;
 use crate::writing::write_text;
 use formats::format::Format;
-use libc::STDOUT_FILENO;
 use refusals::Refusal;
+use std::io;
 use words::Kind;
 
 // Line one.
-pub fn print_header(kind: &[u8]) {
-    io::write_all(STDOUT_FILENO, b"balise ");
-    io::write_all(STDOUT_FILENO, kind);
-    io::write_all(STDOUT_FILENO, b" 1\n");
+pub fn print_header(rt: &impl Print, kind: &[u8]) -> io::Result<()> {
+    rt.write_all(b"balise ")?;
+    rt.write_all(kind)?;
+    rt.write_all(b" 1\n")
 }
 
 // Line two: how many bits were read.
-pub fn print_count(count: usize) {
-    io::write_all(STDOUT_FILENO, b"bits ");
-    io::print_decimal(STDOUT_FILENO, count as u64);
-    end_line();
+pub fn print_count(rt: &impl Print, count: usize) -> io::Result<()> {
+    println!(rt; "bits {count}")
 }
 
 // Line two of a bad text.
-pub fn print_bad() {
-    io::write_all(STDOUT_FILENO, b"bad\n");
+pub fn print_bad(rt: &impl Print) -> io::Result<()> {
+    println!(rt; "bad")
 }
 
 // Line three of a search that finds nothing.
-pub fn print_none() {
-    io::write_all(STDOUT_FILENO, b"none\n");
+pub fn print_none(rt: &impl Print) -> io::Result<()> {
+    println!(rt; "none")
 }
 
 // Line three of a refusal: its number, for 4 the count of pairs tried, and for 9 the kind and the index of the first bad word
 // (document 02, No. 13).
-pub fn print_refused(refusal: Refusal) {
+pub fn print_refused(rt: &impl Print, refusal: Refusal) -> io::Result<()> {
     let number = refusals::number(refusal);
-    io::write_all(STDOUT_FILENO, b"refused ");
-    io::print_decimal(STDOUT_FILENO, number as u64);
+    print!(rt; "refused {number}")?;
     if number == 4 {
-        print_field(b"tried", refusals::tried(refusal) as u64);
+        print_field(rt, b"tried", refusals::tried(refusal) as u64)?;
     }
     if let Refusal::NotWord(bad) = refusal {
         let kind = bad.kind;
-        print_kind(kind);
-        print_field(b"word", bad.index as u64);
+        print_kind(rt, kind)?;
+        print_field(rt, b"word", bad.index as u64)?;
     }
-    end_line();
+    end_line(rt)
 }
 
 // The kind of a word that is not in the table, as two further words of a line.
-fn print_kind(kind: Kind) {
-    print_word(b"kind");
+fn print_kind(rt: &impl Print, kind: Kind) -> io::Result<()> {
+    print_word(rt, b"kind")?;
     match kind {
-        Kind::Group250 => print_word(b"250"),
-        Kind::Group20 => print_word(b"20"),
-        Kind::Other => print_word(b"other"),
+        Kind::Group250 => print_word(rt, b"250"),
+        Kind::Group20 => print_word(rt, b"20"),
+        Kind::Other => print_word(rt, b"other"),
     }
 }
 
 // The first word of line three.
-pub fn print_format(format: Format) {
+pub fn print_format(rt: &impl Print, format: Format) -> io::Result<()> {
     match format {
-        Format::Long => {
-            io::write_all(STDOUT_FILENO, b"long");
-        }
-        Format::Short => {
-            io::write_all(STDOUT_FILENO, b"short");
-        }
+        Format::Long => rt.write_all(b"long"),
+        Format::Short => rt.write_all(b"short"),
     }
 }
 
 // A further word of a line.
-pub fn print_word(word: &[u8]) {
-    io::write_all(STDOUT_FILENO, b" ");
-    io::write_all(STDOUT_FILENO, word);
+pub fn print_word(rt: &impl Print, word: &[u8]) -> io::Result<()> {
+    rt.write_all(b" ")?;
+    rt.write_all(word)
 }
 
 // A further word and a number of a line.
-pub fn print_field(name: &[u8], value: u64) {
-    print_word(name);
-    io::write_all(STDOUT_FILENO, b" ");
-    io::print_decimal(STDOUT_FILENO, value);
+pub fn print_field(rt: &impl Print, name: &[u8], value: u64) -> io::Result<()> {
+    print_word(rt, name)?;
+    print!(rt; " {value}")
 }
 
 // The end of a line.
-pub fn end_line() {
-    io::write_all(STDOUT_FILENO, b"\n");
+pub fn end_line(rt: &impl Print) -> io::Result<()> {
+    rt.write_all(b"\n")
 }
 
 // Whether a window was cut upright or flipped, as a further word of a line.
-pub fn print_flipped(flipped: bool) {
+pub fn print_flipped(rt: &impl Print, flipped: bool) -> io::Result<()> {
     if flipped {
-        print_word(b"flipped");
+        print_word(rt, b"flipped")
     } else {
-        print_word(b"upright");
+        print_word(rt, b"upright")
     }
 }
 
 // A line of bits.
-pub fn print_bits(bits: &[u8]) {
+pub fn print_bits(rt: &impl Print, bits: &[u8]) -> io::Result<()> {
     let mut done = 0;
     while done < bits.len() {
-        done += print_some(&bits[done..]);
+        done += print_some(rt, &bits[done..])?;
     }
-    end_line();
+    end_line(rt)
 }
 
 // Prints as many of the bits as go into one write, and answers how many.
-fn print_some(bits: &[u8]) -> usize
-    ensures { result ≡ min (length bits.now) 1024 }
+fn print_some(rt: &impl Print, bits: &[u8]) -> io::Result<usize>
+    ensures { IfOk result (λ n. n ≡ min (length bits.now) 1024) }
 {
     let mut text = [0u8; 1024];
     let n = write_text(bits, &mut text);
-    io::write_all(STDOUT_FILENO, front(&text, n));
-    n
+    rt.write_all(front(&text, n))?;
+    Ok(n)
 }

@@ -3,8 +3,7 @@
 use mathlib.Core.Path.{◌≡◌, refl, sym, ap, ◌∙◌}
 use mathlib.Core.Bool.{true, false}
 use mathlib.Core.List.{List}
-use mathlib.Core.Logic.{⊎_elim}
-use Prim.Native.Nat.{ℕ, ◌+◌, ◌-◌, ◌≤◌, ◌<◌}
+use Prim.Native.Nat.{ℕ, ◌+◌, ◌≤◌, ◌<◌}
 use native.Mathlib.Omega.{arith}
 use borrow.Author.Tests.{eq-eqb, ne_eqb}
 use lib.ListN.{length, get_or, drop}
@@ -15,6 +14,7 @@ use Rattle.texts.specs.Faults.{is_fault, room_after, good_bytes}
 use Rattle.texts.proofs.FirstFault.{none_of_nil, none_at_fault, one_more}
 use Rattle.texts.proofs.faults.good_bytes.Invariants.{Passed}
 use Rattle.texts.proofs.faults.good_bytes.Goals as goal
+use Rattle.texts.proofs.faults.good_bytes.Goals.{in-Bit+else-left-eq0, in-Skipped}
 
 module _ (text : List ℕ) (room left i : ℕ) where
   -- a byte more that is no fault
@@ -54,10 +54,14 @@ pub loop-i-preserved : goal.loop-i-preserved
 loop-i-preserved c =
     let a = c.args in
     let more = passed a.text.now a.room c.loop-i.left c.loop-i.i (omega arith) c.loop-i.invariant.1 c.match-character.left in
-    let read = sym c.character_of-character.ensures in (
-      omega arith,
-      ⊎_elim (λ w. more _ (read ∙ w.1.given.1) (ne_eqb _ _ w.2.left) w.3) (λ w. more _ (read ∙ w.1.given.1) refl w.2) c.match-character.branch,
-    )
+    let read = sym c.character_of-character.ensures in
+    let next : Passed a.text.now a.room c.match-character.left (c.loop-i.i + 1) =
+    elim c.match-character.branch [
+      | in-Bit+else-left-eq0 w ↦ more _ (read ∙ w.in-Bit.is) (ne_eqb _ _ w.if-left-eq0.false) w.left-is
+      | in-Skipped w ↦ more _ (read ∙ w.in-Skipped.is) refl w.left-is
+    ]
+    in
+    (omega arith, next)
 
 pub returns : goal.returns
 returns c =

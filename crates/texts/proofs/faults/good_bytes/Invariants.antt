@@ -8,9 +8,8 @@ use Rattle.texts.specs.Faults.{good_bytes}
 use Rattle.texts.proofs.faults.good_bytes.Given as goal
 
 -- the first i bytes of a text are good, and leave so much of the room
-pub Passed : List ℕ → ℕ → ℕ → ℕ → Type 0
+unfoldable pub Passed : List ℕ → ℕ → ℕ → ℕ → Type 0
 Passed text room left i = i + good_bytes left (drop i text) ≡ good_bytes room text
-
 
 abbrev pub invariant-loop-i : goal.invariant-loop-i
 invariant-loop-i l = (l.i ≤ length l.text) × (Passed l.text l.room l.left l.i)

@@ -20,41 +20,40 @@ module _ (old buffer new : List ℕ) (n : ℕ) (same : length buffer ≡ length 
   one_read r q v e = subst (λ (x : OneRead). OfSomeText (outcome (progress_after n x) new) 0 old) e (some_more 0 n buffer old w same v)
 
 pub loop-reads-init : goal.loop-reads-init
-loop-reads-init c = (refl, some_none 0 c.args.bits.now (omega arith))
+loop-reads-init g c = (refl, some_none 0 c.args.bits.now (omega arith))
 
 pub read_some-got-requires : goal.read_some-got-requires
-read_some-got-requires c =
+read_some-got-requires g c =
     some_within 0 c.loop-reads.count c.loop-reads.bits c.args.bits.now c.loop-reads.invariant.1
 
 pub shape_of-bits-in-End : goal.shape_of-bits-in-End
-shape_of-bits-in-End c =
-    t.read_Some.auto.0 ∙ c.loop-reads.invariant.0
+shape_of-bits-in-End g c =
+    c.read_some-got.auto.bits ∙ c.loop-reads.invariant.0
 
 pub returns-in-End : goal.returns-in-End
-returns-in-End c =
-    one_read c.args.bits.now c.loop-reads.bits t.read_Some.new.0 c.loop-reads.count c.loop-reads.invariant.0 c.loop-reads.invariant.1 t.read_Some.result
-    End t.read_Some.ensures c.in-End.is
+returns-in-End g c =
+    one_read c.args.bits.now c.loop-reads.bits c.read_some-got.new.bits c.loop-reads.count c.loop-reads.invariant.0 c.loop-reads.invariant.1 c.read_some-got.result
+    End c.read_some-got.ensures c.in-End.is
 
 pub shape_of-bits-in-Bad : goal.shape_of-bits-in-Bad
-shape_of-bits-in-Bad c =
-    t.read_Some.auto.0 ∙ c.loop-reads.invariant.0
+shape_of-bits-in-Bad g c =
+    c.read_some-got.auto.bits ∙ c.loop-reads.invariant.0
 
 pub returns-in-Bad : goal.returns-in-Bad
-returns-in-Bad c =
-    one_read c.args.bits.now c.loop-reads.bits t.read_Some.new.0 c.loop-reads.count c.loop-reads.invariant.0 c.loop-reads.invariant.1 t.read_Some.result
-    Bad-read t.read_Some.ensures c.in-Bad.is
+returns-in-Bad g c =
+    one_read c.args.bits.now c.loop-reads.bits c.read_some-got.new.bits c.loop-reads.count c.loop-reads.invariant.0 c.loop-reads.invariant.1 c.read_some-got.result
+    Bad-read c.read_some-got.ensures c.in-Bad.is
 
 pub loop-reads-preserved : goal.loop-reads-preserved
-loop-reads-preserved c =
-    (
-      t.read_Some.auto.0 ∙ c.loop-reads.invariant.0,
-      one_read c.args.bits.now c.loop-reads.bits t.read_Some.new.0 c.loop-reads.count c.loop-reads.invariant.0 c.loop-reads.invariant.1 t.read_Some.result
-          (More c.in-More.more c.in-More.bytes) t.read_Some.ensures c.in-More.is,
-    )
+loop-reads-preserved g c = (
+  c.read_some-got.auto.bits ∙ c.loop-reads.invariant.0,
+  one_read c.args.bits.now c.loop-reads.bits c.read_some-got.new.bits c.loop-reads.count c.loop-reads.invariant.0 c.loop-reads.invariant.1 c.read_some-got.result
+      (More c.in-More.more c.in-More.bytes) c.read_some-got.ensures c.in-More.is,
+)
 
 pub shape_of-bits : goal.shape_of-bits
-shape_of-bits c = c.loop-reads.invariant.0
+shape_of-bits g c = c.loop-reads.invariant.0
 
 pub returns : goal.returns
-returns c =
+returns g c =
     some_failed 0 c.loop-reads.count c.loop-reads.bits c.args.bits.now c.loop-reads.invariant.1

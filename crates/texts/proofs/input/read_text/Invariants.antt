@@ -8,7 +8,7 @@ use Rattle.texts.specs.Input.{OfSomeText}
 use Rattle.texts.proofs.input.read_text.Given as goal
 
 abbrev pub invariant-loop-reads : goal.invariant-loop-reads
-invariant-loop-reads l = (length l.bits ≡ length l.initial.bits) × OfSomeText (outcome (Count l.count) l.bits) 0 l.initial.bits
+invariant-loop-reads g l = (length l.bits ≡ length l.initial.bits) × OfSomeText (outcome (Count l.count) l.bits) 0 l.initial.bits
 
 abbrev pub decreases-loop-reads : goal.decreases-loop-reads
-decreases-loop-reads l = l.reads
+decreases-loop-reads g l = l.reads

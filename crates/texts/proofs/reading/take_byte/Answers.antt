@@ -37,16 +37,14 @@ known b n byte e k = sym (ap (λ (t : Taken). kept t b) (taken-one (length b) (h
 pub returns-then-count-bits : goal.returns-then-count-bits
 returns-then-count-bits c =
     let a = c.args in
-    let known-bit = c.character-1.given in
-    known a.bits.now a.count a.byte (sym c.character_of-character.ensures ∙ known-bit.1)
-    (room a.bits.now a.count known-bit.0.0 (omega arith))
+    known a.bits.now a.count a.byte (sym c.character_of-character.ensures ∙ c.in-Bit.is)
+    (room a.bits.now a.count c.in-Bit.bit (omega arith))
 
 pub returns-else-count-bits : goal.returns-else-count-bits
 returns-else-count-bits c =
     let a = c.args in
-    let known-bit = c.character-1.given in
-    known a.bits.now a.count a.byte (sym c.character_of-character.ensures ∙ known-bit.1)
-    (full a.bits.now a.count known-bit.0.0 c.requires (omega arith))
+    known a.bits.now a.count a.byte (sym c.character_of-character.ensures ∙ c.in-Bit.is)
+    (full a.bits.now a.count c.in-Bit.bit c.requires (omega arith))
 
 pub returns-in-Skipped : goal.returns-in-Skipped
 returns-in-Skipped c =

@@ -1,7 +1,7 @@
 -- `texts::reading::take_text` meets its contract. The loop's invariant: the buffer holds what the bytes passed give. Assumes nothing.
 use mathlib.Core.Path.{◌≡◌, refl, sym, ap, ◌∙◌}
 use mathlib.Core.List.{List, [], ◌∷◌, ◌++◌}
-use Prim.Native.Nat.{ℕ, ◌+◌, ◌-◌, ◌≤◌, ◌<◌}
+use Prim.Native.Nat.{ℕ, ◌+◌, ◌≤◌, ◌<◌}
 use native.Mathlib.Numerals.{add-one}
 use native.Mathlib.Omega.{arith}
 use lib.ListN.{length, take, drop, get_or, take-append-drop}
@@ -58,7 +58,7 @@ take_byte-requires c =
     inside a.text.now a.bits.now a.count c.loop-i.bits c.loop-i.held c.loop-i.i c.loop-i.invariant.1.1
 
 pub shape_of-bits-in_default : goal.shape_of-bits-in_default
-shape_of-bits-in_default c = c.take_byte.auto.1.0 ∙ c.loop-i.invariant.1.0
+shape_of-bits-in_default c = c.take_byte.auto.bits ∙ c.loop-i.invariant.1.0
 
 pub returns-in_default : goal.returns-in_default
 returns-in_default c =
@@ -74,7 +74,7 @@ loop-i-preserved c =
     let new = c.take_byte.new.bits in (
       omega arith,
       (
-        c.take_byte.auto.1.0 ∙ c.loop-i.invariant.1.0,
+        c.take_byte.auto.bits ∙ c.loop-i.invariant.1.0,
         more a.text.now a.bits.now a.count c.loop-i.bits c.loop-i.held c.loop-i.i (omega arith) c.loop-i.invariant.1.0 c.loop-i.invariant.1.1
             (ap (λ (r : Progress). outcome r new) (sym c.in-Count.is) ∙ c.take_byte.ensures),
       ),

@@ -6,13 +6,12 @@ use lib.ListN.{length, take}
 use Rattle.refusals.specs.Outcome.{Outcome, outcome}
 use Rattle.texts.specs.declared.reading.Progress.{Progress}
 use Rattle.texts.specs.declared.reading.Progress.TheVariants.{Count}
-use Rattle.texts.specs.Reading.{held, taken_into}
+use Rattle.texts.specs.Reading.{taken_into}
 use Rattle.texts.proofs.reading.take_text.Given as goal
 
 -- what the first i bytes of the text give
-pub front : (text old : List ℕ) (count i : ℕ) → Outcome Progress
+unfoldable pub front : (text old : List ℕ) (count i : ℕ) → Outcome Progress
 front text old count i = taken_into old count (take i text)
-
 
 abbrev pub invariant-loop-i : goal.invariant-loop-i
 invariant-loop-i l =
