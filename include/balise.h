@@ -14,7 +14,7 @@
  *   - that an output overlaps no input;
  *   - that no other thread writes a buffer, or reads an output, during a call.
  * That these declarations, fields and numbers are those of the library's source,
- * crates/balise/src/lib.rt and specs/AsNumber.antt, is tested and not proved.
+ * crates/balise_c/src/lib.rt and crates/balise/specs/AsNumber.antt, is tested and not proved.
  */
 #ifndef BALISE_H
 #define BALISE_H

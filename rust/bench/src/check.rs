@@ -1,4 +1,4 @@
-//! The seconds of the check, from what `rt prove` printed.
+//! The seconds of the check, from what the older kit's `rt prove` printed.
 
 /// Name and seconds of a line `rt: NAME proved (N s)`.
 fn proved(line: &str) -> Option<(&str, &str)> {

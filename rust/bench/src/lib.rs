@@ -95,7 +95,7 @@ fn timed(calls: usize, mut one: impl FnMut(usize), mut other: impl FnMut(usize))
 }
 
 /// Prints docs/PERFORMANCE.md, with the seconds of the check from what
-/// `rt prove` printed.
+/// the older kit's `rt prove` printed.
 pub fn figures(log: Option<&str>) {
     println!("# Figures");
     println!();
@@ -104,9 +104,8 @@ pub fn figures(log: Option<&str>) {
     );
     println!();
     println!("```");
-    println!("mkdir -p rust/target && rt prove > rust/target/prove.log");
     println!("tools/archives");
-    println!("cd rust && cargo run --release --offline -p bench -- target/prove.log > ../docs/PERFORMANCE.md");
+    println!("cd rust && cargo run --release --offline -p bench > ../docs/PERFORMANCE.md");
     println!("```");
     println!();
     println!("Ratios of one run, both sides built for release; nothing asserts a time. Medians of");
