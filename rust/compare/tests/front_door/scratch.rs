@@ -11,15 +11,17 @@ use std::sync::atomic::{AtomicUsize, Ordering};
 use std::{env, process};
 
 /// What the script calls.
-const TOOLS: [&str; 21] = [
+const TOOLS: [&str; 23] = [
     "awk",
     "bash",
     "cat",
+    "cmp",
     "cut",
     "env",
     "find",
     "flock",
     "grep",
+    "install",
     "mkdir",
     "paste",
     "readlink",
