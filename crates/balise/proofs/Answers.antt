@@ -1,6 +1,6 @@
 -- Whatever a call answers fits the fields of its number, and so is read back from it: B has twelve bits, esb and a turn have ten, a
 -- count has 23, a place is within the limit, and a bad word is one of a telegram. Assumes nothing.
-use mathlib.Core.Path.{◌≡◌, refl, sym, ap, subst, ◌∙◌}
+use mathlib.Core.Path.{◌≡◌, refl, ap, subst, ◌∙◌}
 use mathlib.Core.Bool.{Bool, true, false, cond}
 use mathlib.Core.List.{List, ◌∷◌}
 use Prim.Native.Nat.{ℕ, ◌≤◌, ◌<◌}
@@ -19,36 +19,28 @@ use Rattle.refusals.specs.Outcome.{Outcome, outcome}
 use Rattle.refusals.specs.Refused.{pair_count, refusal_number, tried_count, bad_word_in}
 use Rattle.refusals.specs.AnswerValues.{format_number, flipped_number, refusal_values}
 use Rattle.refusals.proofs.Numbers.{number_fits, carried}
-use Rattle.encoder.specs.declared.Encoded.{Encoded}
-use Rattle.encoder.specs.declared.Encoded.TheVariants.{Pair, Refused as NotEncoded}
 use Rattle.encoder.specs.Encoding.{encoded_values, encode_of}
 use Rattle.encoder.proofs.Accepted.{encode_accepted}
-use Rattle.checker.specs.declared.Checked.{Checked}
-use Rattle.checker.specs.declared.Checked.TheVariants.{Proper, Refused as NotProper}
 use Rattle.checker.specs.Checking.{checked_values, format_of as formatOfTelegram, check_of}
 use Rattle.checker.proofs.Exact.{checks}
-use Rattle.maker.specs.declared.Made.{Made}
-use Rattle.maker.specs.declared.Made.TheVariants.{Telegram, Refused as NotMade}
 use Rattle.maker.specs.Making.{made_values, format_of as formatOfBlock, make_of}
 use Rattle.maker.proofs.Exact.{make_answers}
-use Rattle.lister.specs.declared.Listed.{Listed}
-use Rattle.lister.specs.declared.Listed.TheVariants.{Pair as NextPair, NoMore, Refused as NotListed}
 use Rattle.lister.specs.Listing.{listed_values, next_of}
 use Rattle.lister.proofs.Exact.{next_pair_small}
 use Rattle.reader.specs.declared.Asked.{Asked}
 use Rattle.reader.specs.declared.Asked.TheVariants.{Proper}
 use Rattle.reader.specs.declared.Reading.{Reading}
-use Rattle.reader.specs.declared.ReadAnswer.{ReadAnswer}
-use Rattle.reader.specs.declared.ReadAnswer.TheVariants.{Read, Refused as NotRead}
 use Rattle.reader.specs.Reads.{reading_values, read_values, format_of as formatOfWindow, read_by}
 use Rattle.reader.proofs.Laws.{read_accepted}
 use Rattle.reader.proofs.NamesBadWord.{named_below}
-use Rattle.captures.specs.declared.Capture.{Capture}
-use Rattle.captures.specs.declared.Capture.TheVariants.{Found, Refused as NotFound}
-use Rattle.captures.specs.Captures.{capture_values, window_at, search_of}
+use Rattle.captures.specs.Captures.{capture_values, window_at, search_of, found_with}
 use Rattle.captures.proofs.Exact.{searches}
-use Rattle.balise.specs.AsNumber.{packed, encoded_sizes, checked_sizes, made_sizes, listed_sizes, read_sizes, search_sizes, Fits, ReadBack}
+use Rattle.balise.specs.AsNumber.{encoded_sizes, checked_sizes, made_sizes, listed_sizes, read_sizes, search_sizes, Fits, ReadBack}
 use Rattle.balise.proofs.Fields.{fits_back}
+use Rattle.std.specs.Prelude.{Option, Result, Some, None, Ok, Err}
+use Rattle.encoder.specs.declared.Encoded.{Encoded}
+use Rattle.lister.specs.declared.Listed.{Listed}
+use Rattle.captures.specs.declared.Found.{Found}
 
 -- ---- answers that are equal
 
@@ -56,19 +48,10 @@ module _ {A : Type 0} (sizes : List ℕ) (values : A → List ℕ) {a b : A} (e 
   pub same_fits : Fits sizes (values a) → Fits sizes (values b)
   same_fits = subst (λ (x : A). Fits sizes (values x)) e
 
-  pub same_number : packed sizes (values a) ≡ packed sizes (values b)
-  same_number = ap (λ (x : A). packed sizes (values x)) e
-
--- what a call that writes is to answer, and what it answered and left in the output
+-- what a call that writes is to answer, and what it answered
 module _ {A : Type 0} (sizes : List ℕ) (values : A → List ℕ) {due : Outcome A} {a : A} {o : List ℕ} (e : due ≡ outcome a o) where
   pub answer_fits : Fits sizes (values due.answer) → Fits sizes (values a)
   answer_fits = same_fits sizes values (ap (λ (x : Outcome A). x.answer) e)
-
-  pub answer_packed : {n : ℕ} → n ≡ packed sizes (values a) → (n ≡ packed sizes (values due.answer)) × (o ≡ due.output)
-  answer_packed f = (
-    f ∙ sym (same_number sizes values (ap (λ (x : Outcome A). x.answer) e)),
-    sym (ap (λ (x : Outcome A). x.output) e),
-  )
 
 -- ---- single values
 
@@ -101,11 +84,11 @@ module _ (u out : List ℕ) where
   pub encode_fits : Fits encoded_sizes (encoded_values (encode_of u out).answer)
   encode_fits = go (encode_of u out).answer refl
     where
-      go : (a : Encoded) → (encode_of u out).answer ≡ a → Fits encoded_sizes (encoded_values a)
-      go (Pair format B esb tried) e =
-          let h = encode_accepted u out format B esb tried e in
-          search (arith, format_fits format, h.first.scrambling, h.first.shaping, h.most)
-      go (NotEncoded refusal) e = search (arith, number_fits refusal, tried_fits refusal)
+      go : (a : Result Encoded Refusal) → (encode_of u out).answer ≡ a → Fits encoded_sizes (encoded_values a)
+      go (Ok first) e =
+          let h = encode_accepted u out first.format first.pair.scrambling first.pair.shaping first.tried e in
+          search (arith, format_fits first.format, h.first.scrambling, h.first.shaping, h.most)
+      go (Err refusal) e = search (arith, number_fits refusal, tried_fits refusal)
 
   pub encode_back : ReadBack encoded_sizes (encoded_values (encode_of u out).answer)
   encode_back = fits_back encoded_sizes (encoded_values (encode_of u out).answer) encode_fits
@@ -116,10 +99,10 @@ module _ (b : List ℕ) where
   pub check_fits : Fits checked_sizes (checked_values (check_of b))
   check_fits = go (check_of b) refl
     where
-      go : (a : Checked) → check_of b ≡ a → Fits checked_sizes (checked_values a)
-      go (Proper format) e = search (arith, format_fits format)
-      go (NotProper refusal) e =
-          refusal_fits refusal (formatOfTelegram b) (λ bad is. (((checks b).names bad).0 (e ∙ ap (λ (r : Refusal). NotProper r) is)).1.among)
+      go : (a : Result Format Refusal) → check_of b ≡ a → Fits checked_sizes (checked_values a)
+      go (Ok format) e = search (arith, format_fits format)
+      go (Err refusal) e =
+          refusal_fits refusal (formatOfTelegram b) (λ bad is. (((checks b).names bad).0 (e ∙ ap (λ (r : Refusal). Err r) is)).1.among)
 
   pub check_back : ReadBack checked_sizes (checked_values (check_of b))
   check_back = fits_back checked_sizes (checked_values (check_of b)) check_fits
@@ -130,11 +113,11 @@ module _ (u : List ℕ) (B esb : ℕ) (out : List ℕ) where
   pub make_fits : Fits made_sizes (made_values (make_of u B esb out).answer)
   make_fits = go (make_of u B esb out).answer refl
     where
-      go : (a : Made) → (make_of u B esb out).answer ≡ a → Fits made_sizes (made_values a)
-      go (Telegram format) e = search (arith, format_fits format)
-      go (NotMade refusal) e =
+      go : (a : Result Format Refusal) → (make_of u B esb out).answer ≡ a → Fits made_sizes (made_values a)
+      go (Ok format) e = search (arith, format_fits format)
+      go (Err refusal) e =
           refusal_fits refusal (formatOfBlock u)
-          (λ bad is. (((make_answers u B esb out).names bad).0 (e ∙ ap (λ (r : Refusal). NotMade r) is)).1.among)
+          (λ bad is. (((make_answers u B esb out).names bad).0 (e ∙ ap (λ (r : Refusal). Err r) is)).1.among)
 
   pub make_back : ReadBack made_sizes (made_values (make_of u B esb out).answer)
   make_back = fits_back made_sizes (made_values (make_of u B esb out).answer) make_fits
@@ -145,12 +128,12 @@ module _ (u : List ℕ) (B esb : ℕ) (out : List ℕ) where
   pub next_fits : Fits listed_sizes (listed_values (next_of u B esb out).answer)
   next_fits = go (next_of u B esb out).answer refl
     where
-      go : (a : Listed) → (next_of u B esb out).answer ≡ a → Fits listed_sizes (listed_values a)
-      go (NextPair format C e) is =
-          let small = next_pair_small u B esb out format C e is in
-          search (arith, format_fits format, small.0, small.1)
-      go NoMore is = search arith
-      go (NotListed refusal) is = search (arith, number_fits refusal)
+      go : (a : Result (Option Listed) Refusal) → (next_of u B esb out).answer ≡ a → Fits listed_sizes (listed_values a)
+      go (Ok (Some next)) is =
+          let small = next_pair_small u B esb out next.format next.pair.scrambling next.pair.shaping is in
+          search (arith, format_fits next.format, small.0, small.1)
+      go (Ok None) is = search arith
+      go (Err refusal) is = search (arith, number_fits refusal)
 
   pub next-back : ReadBack listed_sizes (listed_values (next_of u B esb out).answer)
   next-back = fits_back listed_sizes (listed_values (next_of u B esb out).answer) next_fits
@@ -158,7 +141,7 @@ module _ (u : List ℕ) (B esb : ℕ) (out : List ℕ) where
 -- ---- read
 
 module _ (asked : Asked) (w out : List ℕ) where
-  reading_fits : (reading : Reading) → (read_by asked w out).answer ≡ Read reading → (p : ℕ) → p < 65536 → Fits read_sizes (0 ∷ reading_values p reading)
+  reading_fits : (reading : Reading) → (read_by asked w out).answer ≡ Ok reading → (p : ℕ) → p < 65536 → Fits read_sizes (0 ∷ reading_values p reading)
   reading_fits reading e p below =
       let h = read_accepted asked w out reading e in
       search (arith, format_fits reading.format, flipped_fits reading.flipped, telegram_between reading.format, h.scrambling, h.shaping, h.turn)
@@ -166,10 +149,10 @@ module _ (asked : Asked) (w out : List ℕ) where
   pub read_fits : Fits read_sizes (read_values (read_by asked w out).answer)
   read_fits = go (read_by asked w out).answer refl
     where
-      go : (a : ReadAnswer) → (read_by asked w out).answer ≡ a → Fits read_sizes (read_values a)
-      go (Read reading) e = reading_fits reading e 0 (omega arith)
-      go (NotRead refusal) e =
-          refusal_fits refusal (formatOfWindow w) (λ bad is. named_below asked w out bad (e ∙ ap (λ (r : Refusal). NotRead r) is))
+      go : (a : Result Reading Refusal) → (read_by asked w out).answer ≡ a → Fits read_sizes (read_values a)
+      go (Ok reading) e = reading_fits reading e 0 (omega arith)
+      go (Err refusal) e =
+          refusal_fits refusal (formatOfWindow w) (λ bad is. named_below asked w out bad (e ∙ ap (λ (r : Refusal). Err r) is))
 
   pub read_back : ReadBack read_sizes (read_values (read_by asked w out).answer)
   read_back = fits_back read_sizes (read_values (read_by asked w out).answer) read_fits
@@ -178,7 +161,7 @@ module _ (asked : Asked) (w out : List ℕ) where
 
 module _ (s : List ℕ) where
   -- what is found is what read answers for a window, lent room
-  found_fits : (p : ℕ) (reading : Reading) → search_of s ≡ Found p reading → Fits search_sizes (capture_values (Found p reading))
+  found_fits : (p : ℕ) (reading : Reading) → search_of s ≡ Ok (found_with p reading) → Fits search_sizes (capture_values (Ok (found_with p reading)))
   found_fits p reading e =
       let (searched, first) = ((searches s).finds p reading).0 e in
       let m = (numbers_of reading.format).m in
@@ -190,9 +173,9 @@ module _ (s : List ℕ) where
   pub search_fits : Fits search_sizes (capture_values (search_of s))
   search_fits = go (search_of s) refl
     where
-      go : (a : Capture) → search_of s ≡ a → Fits search_sizes (capture_values a)
-      go (Found p reading) e = found_fits p reading e
-      go (NotFound refusal) e = search (arith, number_fits refusal)
+      go : (a : Result Found Refusal) → search_of s ≡ a → Fits search_sizes (capture_values a)
+      go (Ok found) e = found_fits found.place found.reading e
+      go (Err refusal) e = search (arith, number_fits refusal)
 
   pub search_back : ReadBack search_sizes (capture_values (search_of s))
   search_back = fits_back search_sizes (capture_values (search_of s)) search_fits

@@ -4,7 +4,7 @@ use mathlib.Core.List.{List, [], ◌∷◌}
 use Prim.Native.Nat.{ℕ, suc, ◌+◌, ◌-◌, ◌≤◌, ◌<◌}
 use native.Mathlib.Numerals.{add-one}
 use native.Mathlib.Omega.{arith}
-use lib.ListN.{length, get_or, take, drop, drop_of_length-le}
+use lib.ListN.{length, get_or, drop, drop_of_length-le}
 use lib.Seq.{drop-cons}
 
 -- of k numbers, i of them passed, one is next, and the rest after it
@@ -22,15 +22,3 @@ rest_more s i h = drop-cons s i 0 h ∙ ap (λ (n : ℕ). get_or s i 0 ∷ drop 
 -- everything is passed
 pub rest_done : (s : List ℕ) (i : ℕ) → length s ≤ i → drop i s ≡ []
 rest_done s i h = drop_of_length-le s h
-
--- of k elements from index at on, the next after i is passed, and the rest after it
-pub part_more : (s : List ℕ) (at k i : ℕ) → i < k → at + k ≤ length s
-    → take (k - i) (drop (at + i) s) ≡ get_or s (at + i) 0 ∷ take (k - (i + 1)) (drop (at + (i + 1)) s)
-part_more s at k i h within =
-    let place : at + i + 1 ≡ at + (i + 1) = omega arith in
-    let below : at + i < length s = omega arith in
-    rw (count_more h, rest_more s (at + i) below, place)
-
--- of k elements all are passed
-pub part_done : (s : List ℕ) (k i : ℕ) → k ≤ i → take (k - i) s ≡ []
-part_done s k i h = rw (count_done h)

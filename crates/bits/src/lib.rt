@@ -1,5 +1,9 @@
 // Bits, one to a byte, earliest sent first: the tests that every byte is 0 or 1 and that two slices are the same, the
 // number of some consecutive bits, the bits of a number, and the flip.
+//
+// That the bytes of a slice are bits is a clause here and in the layers, and not a type: a type that lends a slice is named in an `ensures` by
+// `s.entry.bytes.now`, and each part of a buffer would be wrapped where it is lent, so that clauses and calls would be longer. Blocks, telegrams
+// and windows, where they are whole and go with their format, are types.
 #![tactic(auto)]
 
 ghost use Rattle.std.specs.Prelude.{◌≡◌, ◌+◌, ◌≤◌, ◌<◌, ◌++◌, T, length, take, drop};
@@ -9,14 +13,7 @@ ghost use Rattle.bits.specs.Bits.{all_bits, same, number_of, bits_of, flip};
 pub fn all_bits(s: &[u8]) -> bool
     ensures { result ≡ all_bits s.now }
 {
-    let mut most: u8 = 0;
-    let mut i = 0;
-    while i < s.len() {
-        if most < s[i] {
-            most = s[i];
-        }
-        i += 1;
-    }
+    let most = s.iter().fold(0, |most: u8, b| most.max(*b));
     most < 2
 }
 
@@ -24,7 +21,7 @@ pub fn all_bits(s: &[u8]) -> bool
 pub fn same(a: &[u8], b: &[u8]) -> bool
     ensures { result ≡ same a.now b.now }
 {
-    check::same(a, b)
+    a == b
 }
 
 // The number of the k bits of s from index at on, the first in the highest place.
@@ -33,10 +30,8 @@ pub fn number(s: &[u8], at: usize, k: usize) -> u32
     ensures { result ≡ number_of (take k (drop at s.now)) }
 {
     let mut x: u32 = 0;
-    let mut i = 0;
-    while i < k {
-        x = x * 2 + s[at + i] as u32;
-        i += 1;
+    for b in &s[at..at + k] {
+        x = x * 2 + *b as u32;
     }
     x
 }
@@ -46,10 +41,8 @@ pub fn write_number(out: &mut [u8], k: usize, x: u32)
     requires { (k ≤ 32) × (k ≤ length out.old) }
     ensures { out.new ≡ bits_of k x ++ drop k out.old }
 {
-    let mut i = 0;
-    while i < k {
+    for i in 0..k {
         out[i] = ((x >> (k - (i + 1))) % 2) as u8;
-        i += 1;
     }
 }
 
@@ -58,14 +51,12 @@ pub fn flip(s: &mut [u8])
     requires { T (all_bits s.old) }
     ensures { s.new ≡ flip s.old }
 {
-    let mut i = 0;
-    while i < s.len() {
-        s[i] = 1 - s[i];
-        i += 1;
+    for bit in s.iter_mut() {
+        *bit = 1 - *bit;
     }
 }
 
-// Copies from over the front of out, and answers how many bytes that are.
+// Copies from over the front of out, and answers how many bytes that are. The library's copy_from_slice wants a slice of the same length.
 pub fn copy(from: &[u8], out: &mut [u8]) -> usize
     requires { length from.now ≤ length out.old }
     ensures count { result ≡ length from.now }

@@ -14,12 +14,13 @@ use Rattle.formats.proofs.Fits.{one_format, windows_apart}
 use Rattle.refusals.specs.Outcome.{Outcome}
 use Rattle.reader.specs.declared.Asked.TheVariants.{Proper}
 use Rattle.reader.specs.declared.Reading.{Reading}
-use Rattle.reader.specs.declared.ReadAnswer.{ReadAnswer}
 use Rattle.reader.specs.Reads.{reading_in, reads_as}
 use Rattle.reader.proofs.Laws.{reads_as_lem, read_accepted}
 use Rattle.captures.specs.Captures.{window_at, accepts_as, accepts_at, format_at}
 use Rattle.captures.specs.FirstPlace.{ReadsAt, NotAt}
 use Rattle.captures.proofs.Places.{window-length, accepts_fits, long_there, short_there, neither_there}
+use Rattle.std.specs.Prelude.{Result}
+use Rattle.refusals.specs.declared.Refusal.{Refusal}
 
 module _ (format : Format) (s : List ℕ) (p : ℕ) where
   pub accepts_reads : T (accepts_as format s p) → ReadsAt format s p (reading_in format (window_at format s p))
@@ -27,7 +28,7 @@ module _ (format : Format) (s : List ℕ) (p : ℕ) where
   accepts_reads h =
       record {
         fits = accepts_fits format s p h;
-        reads = λ out room. ap (λ (x : Outcome ReadAnswer). x.answer) (reads_as_lem Proper format (window_at format s p) out h room);
+        reads = λ out room. ap (λ (x : Outcome (Result Reading Refusal)). x.answer) (reads_as_lem Proper format (window_at format s p) out h room);
       }
 
   -- what reads there is accepted, and this is its reading

@@ -25,40 +25,39 @@ use Rattle.refusals.specs.Outcome.{Outcome, outcome}
 use Rattle.refusals.proofs.Table.{Decides, NoRow, accepted_no_row, passed, failed, all_passed, given, answer_by_lem, answer_said, outcome-kept, refuses_by}
 use Rattle.reader.specs.declared.Asked.TheVariants.{Proper}
 use Rattle.reader.specs.declared.Reading.{Reading}
-use Rattle.reader.specs.declared.ReadAnswer.TheVariants.{Read}
 use Rattle.reader.specs.Reads.{reading_in, user_bits_in, read_of}
 use Rattle.reader.proofs.Laws.{reading_format, reads_as_lem}
-use Rattle.captures.specs.declared.Capture.{Capture}
-use Rattle.captures.specs.declared.Capture.TheVariants.{Found, Refused}
-use Rattle.captures.specs.Captures.{capture_limit, window_at, accepts_as, accepts_at, first_place, format_at, found_at, found_out, search_table, search_of, stretch_as, stretch_of, search_read_table, search_read_of}
+use Rattle.captures.specs.Captures.{capture_limit, window_at, accepts_as, accepts_at, first_place, format_at, found_at, found_out, search_table, search_of, stretch_as, stretch_of, search_read_table, search_read_of, found_with}
 use Rattle.captures.specs.Attempts.{out_found}
 use Rattle.captures.specs.FirstPlace.{ReadsAt, FirstPlace, NoneAccepts, Searched, Searches, SearchReads}
 use Rattle.captures.proofs.Places.{window_there, window-length, accepts_fits, long_there, short_there, neither_there, found_there, Passed}
-use Rattle.captures.proofs.Found.{found_as, out_as}
+use Rattle.captures.proofs.FoundAt.{same_found, found_as, out_as}
 use Rattle.captures.proofs.Steps.{search_decided, by_place, same_answer}
 use Rattle.captures.proofs.Accepting.{accepts_reads, reads_accepts, not_accepted, accepted_not, format-accepts, none-accepts}
+use Rattle.std.specs.Prelude.{Result, Ok, Err}
+use Rattle.captures.specs.declared.Found.{Found}
 
 -- ---- refusals
 
-abbrev said : Capture → Verdict Refusal
-said (Found p reading) = accepted
-said (Refused r) = refused r
+abbrev said : Result Found Refusal → Verdict Refusal
+said (Ok f) = accepted
+said (Err r) = refused r
 
-refused_only : (a : Capture) (r : Refusal) → said a ≡ refused r → a ≡ Refused r
-refused_only (Found p reading) r e = clash cc
-refused_only (Refused q) r e = cc
+refused_only : (a : Result Found Refusal) (r : Refusal) → said a ≡ refused r → a ≡ Err r
+refused_only (Ok f) r e = clash cc
+refused_only (Err q) r e = cc
 
 module _ (s : List ℕ) where
   search_said : said (search_of s) ≡ verdict (search_table s)
   unfolding search_of found_at
-  search_said = answer_said Refused said (λ r. refl) (found_at s (which_found (first_place s))) refl (verdict (search_table s))
+  search_said = answer_said Err said (λ r. refl) (found_at s (which_found (first_place s))) refl (verdict (search_table s))
 
   search_rises : T (rises_above refusal_number 0 (search_table s))
   unfolding rises_above search_table
   search_rises = tt
 
-  search_refuses : RefusesBy refusal_number Refused (search_table s) (search_of s)
-  search_refuses = refuses_by Refused said (λ r. refl) refused_only refusal_number (search_table s) search_rises (search_of s) search_said
+  search_refuses : RefusesBy refusal_number Err (search_table s) (search_of s)
+  search_refuses = refuses_by Err said (λ r. refl) refused_only refusal_number (search_table s) search_rises (search_of s) search_said
 
 -- a test that does not refuse holds
 unrefused : (t : Bool) → (T (not t) → ⊥) → T t
@@ -81,13 +80,11 @@ found-format s p reading h =
 
 module _ (s : List ℕ) where
   no_row_found : (f : First) → first_place s ≡ f → NoRow (search_table s) → (p : ℕ) (reading : Reading)
-      → found_at s (which_found (first_place s)) ≡ Found p reading → FoundAt s p reading
+      → found_at s (which_found (first_place s)) ≡ Ok (found_with p reading) → FoundAt s p reading
   unfolding NoRow search_table first_place
   no_row_found (found q) f (within, (bits, rest)) p reading e =
-      let here : found_at s q ≡ Found p reading = ap (λ (x : First). found_at s (which_found x)) (sym f) ∙ e in
-      let answer = sym (found_as s q (format_at s q) refl) ∙ here in
-      let place : q ≡ p = cc in
-      let is : reading_in (format_at s q) (window_at (format_at s q) s q) ≡ reading = cc in
+      let here : found_at s q ≡ Ok (found_with p reading) = ap (λ (x : First). found_at s (which_found x)) (sym f) ∙ e in
+      let (place, is) = same_found (sym (found_as s q (format_at s q) refl) ∙ here) in
       subst (λ (k : ℕ). FoundAt s k reading) place
       (record {
         within = leb-true (length s) capture_limit (not-false (leb (length s) capture_limit) within);
@@ -99,17 +96,17 @@ module _ (s : List ℕ) where
   no_row_found none f (within, (bits, (some, rest))) p reading e =
       absurd (true≢false (sym (ap (λ (x : First). not (is_found x)) f) ∙ some))
 
-  pub found-tells : (p : ℕ) (reading : Reading) → search_of s ≡ Found p reading → FoundAt s p reading
+  pub found-tells : (p : ℕ) (reading : Reading) → search_of s ≡ Ok (found_with p reading) → FoundAt s p reading
   unfolding search_of
   found-tells p reading e = go (verdict (search_table s)) refl e
     where
-      go : (v : Verdict Refusal) → verdict (search_table s) ≡ v → answer_by Refused (found_at s (which_found (first_place s))) v ≡ Found p reading
+      go : (v : Verdict Refusal) → verdict (search_table s) ≡ v → answer_by Err (found_at s (which_found (first_place s))) v ≡ Ok (found_with p reading)
           → FoundAt s p reading
       go (refused r) f e = clash cc
       go accepted f e = no_row_found (first_place s) refl (accepted_no_row (search_table s) f) p reading e
 
   -- the whole window is in the capture
-  pub found_fits : (p : ℕ) (reading : Reading) → search_of s ≡ Found p reading → p + window_bits (numbers_of reading.format) ≤ length s
+  pub found_fits : (p : ℕ) (reading : Reading) → search_of s ≡ Ok (found_with p reading) → p + window_bits (numbers_of reading.format) ≤ length s
   found_fits p reading e =
       let h = found-tells p reading e in
       subst⁻¹ (λ (f : Format). p + window_bits (numbers_of f) ≤ length s) (found-format s p reading h) (accepts_fits (format_at s p) s p h.accepts)
@@ -140,7 +137,7 @@ module _ (s : List ℕ) where
   unfolding search_table
   searched_passed (within, bits) d = passed (le-leb (length s) capture_limit within) (passed (is_true (all_bits s) bits) d)
 
-  place_first : (p : ℕ) (reading : Reading) → Searched s → FirstPlace s p reading → search_of s ≡ Found p reading
+  place_first : (p : ℕ) (reading : Reading) → Searched s → FirstPlace s p reading → search_of s ≡ Ok (found_with p reading)
   place_first p reading searched h =
       let (accepts, reads) = reads_accepts reading.format s p reading h.here in
       let (at, is) = as_format reading.format refl (is_true (accepts_as reading.format s p) accepts) in
@@ -151,7 +148,7 @@ module _ (s : List ℕ) where
       (searched_passed searched (passed (ap is_found first) all_passed))
       ∙ ap (λ (x : First). found_at s (which_found x)) first
       ∙ found_as s p reading.format is
-      ∙ ap (Found p) (sym reads)
+      ∙ ap (λ (r : Reading). Ok (found_with p r)) (sym reads)
     where
       as_format : (f : Format) → reading.format ≡ f → accepts_as f s p ≡ true → (accepts_at s p ≡ true) × (format_at s p ≡ f)
       as_format Long e a = long_there s p a
@@ -159,11 +156,11 @@ module _ (s : List ℕ) where
 
   -- ---- the stretch
 
-  pub stretch-found : (p : ℕ) (reading : Reading) → search_of s ≡ Found p reading → stretch_of s ≡ window_at reading.format s p
+  pub stretch-found : (p : ℕ) (reading : Reading) → search_of s ≡ Ok (found_with p reading) → stretch_of s ≡ window_at reading.format s p
   unfolding stretch_of
   stretch-found p reading e = ap (stretch_as s) e
 
-  pub stretch-none : (refusal : Refusal) → search_of s ≡ Refused refusal → stretch_of s ≡ []
+  pub stretch-none : (refusal : Refusal) → search_of s ≡ Err refusal → stretch_of s ≡ []
   unfolding stretch_of
   stretch-none refusal e = ap (stretch_as s) e
 
@@ -187,10 +184,10 @@ module _ (s : List ℕ) where
       ((leb→le (length s) capture_limit (unrefused (leb (length s) capture_limit) within), unrefused (all_bits s) bits), missing_none h)
   row_tells (inr (within, inr (bits, inr (place, h)))) = absurd h
 
-  none-tells : search_of s ≡ Refused NoPlace → Searched s × NoneAccepts s
+  none-tells : search_of s ≡ Err NoPlace → Searched s × NoneAccepts s
   none-tells e = row_tells ((given (search_table s) NoPlace).0 (sym (search_said s) ∙ ap said e))
 
-  tells_none : Searched s → NoneAccepts s → search_of s ≡ Refused NoPlace
+  tells_none : Searched s → NoneAccepts s → search_of s ≡ Err NoPlace
   unfolding first_place
   tells_none searched h =
       let missing = missing_first (accepts_at s) 0 (length s)
@@ -219,20 +216,20 @@ module _ (s out : List ℕ) where
   read_said =
       let accept = found_out s (which_found (first_place s)) out in
       let v = verdict (search_read_table (length out) s) in
-      ap said (answer_by_lem Refused out accept v) ∙ answer_said Refused said (λ r. refl) accept.answer refl v
+      ap said (answer_by_lem Err out accept v) ∙ answer_said Err said (λ r. refl) accept.answer refl v
 
   read_rises : T (rises_above refusal_number 0 (search_read_table (length out) s))
   unfolding rises_above search_read_table
   read_rises = tt
 
-  read_refuses : RefusesBy refusal_number Refused (search_read_table (length out) s) (search_read_of s out).answer
+  read_refuses : RefusesBy refusal_number Err (search_read_table (length out) s) (search_read_of s out).answer
   read_refuses =
-      refuses_by Refused said (λ r. refl) refused_only refusal_number (search_read_table (length out) s) read_rises (search_read_of s out).answer read_said
+      refuses_by Err said (λ r. refl) refused_only refusal_number (search_read_table (length out) s) read_rises (search_read_of s out).answer read_said
 
-  read_keeps : (r : Refusal) → (search_read_of s out).answer ≡ Refused r → (search_read_of s out).output ≡ out
+  read_keeps : (r : Refusal) → (search_read_of s out).answer ≡ Err r → (search_read_of s out).output ≡ out
   unfolding search_read_of found_out found_at
   read_keeps r =
-      outcome-kept Refused said (λ r. refl) out (found_out s (which_found (first_place s)) out) refl (verdict (search_read_table (length out) s)) r
+      outcome-kept Err said (λ r. refl) out (found_out s (which_found (first_place s)) out) refl (verdict (search_read_table (length out) s)) r
 
   with_room_lem : NoRow (search_read_table (length out) s) → long.m ≤ length out
   unfolding NoRow search_read_table
@@ -240,15 +237,15 @@ module _ (s out : List ℕ) where
 
   stretch_read : (p : ℕ) (format : Format) → T (accepts_as format s p) → (numbers_of format).m ≤ length out
       → read_of (window_at format s p) out
-      ≡ outcome (Read (reading_in format (window_at format s p))) (user_bits_in format (window_at format s p) ++ drop (numbers_of format).m out)
+      ≡ outcome (Ok (reading_in format (window_at format s p))) (user_bits_in format (window_at format s p) ++ drop (numbers_of format).m out)
   unfolding accepts_as
   stretch_read p format h room = reads_as_lem Proper format (window_at format s p) out h room
 
-  stretch_reads : (p : ℕ) (reading : Reading) → (search_read_of s out).answer ≡ Found p reading
-      → (search_of s ≡ Found p reading) × (read_of (stretch_of s) out ≡ outcome (Read reading) (search_read_of s out).output)
+  stretch_reads : (p : ℕ) (reading : Reading) → (search_read_of s out).answer ≡ Ok (found_with p reading)
+      → (search_of s ≡ Ok (found_with p reading)) × (read_of (stretch_of s) out ≡ outcome (Ok reading) (search_read_of s out).output)
   stretch_reads p reading e =
       let room = with_room_lem (accepted_no_row (search_read_table (length out) s) (sym read_said ∙ ap said e)) in
-      let found-s : search_of s ≡ Found p reading = sym (same_answer s out room) ∙ e in
+      let found-s : search_of s ≡ Ok (found_with p reading) = sym (same_answer s out room) ∙ e in
       let h = found-tells s p reading found-s in
       let format = format_at s p in
       let stretch = stretch-found s p reading found-s ∙ ap (λ (f : Format). window_at f s p) (found-format s p reading h) in
@@ -256,7 +253,7 @@ module _ (s out : List ℕ) where
         found-s,
         ap (λ (w : List ℕ). read_of w out) stretch
             ∙ stretch_read p format h.accepts (omega (arith, block_between format))
-            ∙ ap₂ (λ (r : Reading) (o : List ℕ). outcome (Read r) o) (sym h.reads) (sym (ap (λ (x : Outcome Capture). x.output) there)),
+            ∙ ap₂ (λ (r : Reading) (o : List ℕ). outcome (Ok r) o) (sym h.reads) (sym (ap (λ (x : Outcome (Result Found Refusal)). x.output) there)),
       )
 
   pub search_reads : SearchReads s out

@@ -15,25 +15,24 @@ use Rattle.refusals.specs.declared.Refusal.TheVariants.{NoPlace}
 use Rattle.refusals.specs.Table.{Verdict, refused, accepted, verdict, answer_by, outcome_by}
 use Rattle.refusals.proofs.Table.{Decides, passed, failed, all_passed, answer_by_lem}
 use Rattle.refusals.proofs.Outputs.{for_output}
-use Rattle.captures.specs.declared.Capture.TheVariants.{Refused}
-use Rattle.captures.specs.declared.Tested.{Tested}
 use Rattle.captures.specs.Captures.{capture_limit, first_place, found_at, found_out, search_table, search_of, search_read_table, search_read_of}
 use Rattle.captures.specs.Attempts.{out_found}
 use Rattle.captures.specs.Tested.{CleanCapture, TestedFor}
+use Rattle.std.specs.Prelude.{Result, Err}
 
 -- what the tests before the search tell of an output, by the case of their answer
-pub told : (s out : List ℕ) (answer case : Tested) → ((o : List ℕ) → length o ≡ length out → TestedFor s o answer) → answer ≡ case → TestedFor s out case
+pub told : (s out : List ℕ) (answer case : Result (Unit {0}) Refusal) → ((o : List ℕ) → length o ≡ length out → TestedFor s o answer) → answer ≡ case → TestedFor s out case
 told s = for_output (TestedFor s)
 
 pub search_decided : (s : List ℕ) (v : Verdict Refusal) → Decides (search_table s) v
-    → search_of s ≡ answer_by Refused (found_at s (which_found (first_place s))) v
+    → search_of s ≡ answer_by Err (found_at s (which_found (first_place s))) v
 unfolding search_of
-search_decided s v d = ap (answer_by Refused (found_at s (which_found (first_place s)))) d.verdict_is
+search_decided s v d = ap (answer_by Err (found_at s (which_found (first_place s)))) d.verdict_is
 
 pub read_decided : (s out : List ℕ) (v : Verdict Refusal) → Decides (search_read_table (length out) s) v
-    → search_read_of s out ≡ outcome_by Refused out (found_out s (which_found (first_place s)) out) v
+    → search_read_of s out ≡ outcome_by Err out (found_out s (which_found (first_place s)) out) v
 unfolding search_read_of
-read_decided s out v d = ap (outcome_by Refused out (found_out s (which_found (first_place s)) out)) d.verdict_is
+read_decided s out v d = ap (outcome_by Err out (found_out s (which_found (first_place s)) out)) d.verdict_is
 
 -- past the tests of length, bytes and room, the first place decides
 pub by_place : (s out : List ℕ) → CleanCapture s out → search_read_of s out ≡ out_found s out (first_place s)
@@ -59,4 +58,4 @@ by_place s out clean = go (first_place s) refl
 pub same_answer : (s out : List ℕ) → long.m ≤ length out → (search_read_of s out).answer ≡ search_of s
 unfolding search_read_of search_of found_out search_read_table search_table verdict
 same_answer s out room =
-    answer_by_lem Refused out (found_out s (which_found (first_place s)) out) (verdict (search_read_table (length out) s)) ∙ rw (le-leb long.m (length out) room)
+    answer_by_lem Err out (found_out s (which_found (first_place s)) out) (verdict (search_read_table (length out) s)) ∙ rw (le-leb long.m (length out) room)

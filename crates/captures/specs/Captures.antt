@@ -1,7 +1,7 @@
 -- What searching a capture answers, and the stretch that it hands back (document 01, "Search, reading and place", and "When the bench
 -- says no").
 -- Assumes nothing.
-use Rattle.std.specs.Prelude.{ℕ, ◌+◌, Bool, cond, not, ◌||◌, List, [], ◌∷◌, ◌++◌, leb, length, take, drop}
+use Rattle.std.specs.Prelude.{ℕ, ◌+◌, Bool, cond, not, ◌||◌, List, [], ◌∷◌, ◌++◌, leb, length, take, drop, Result, Ok, Err}
 use Rattle.bits.specs.Bits.{all_bits}
 use Rattle.bits.specs.Search.{First, first_of, is_found, which_found}
 use Rattle.formats.specs.declared.format.Format.{Format}
@@ -14,13 +14,17 @@ use Rattle.refusals.specs.Table.{Row, ◌when◌, verdict, answer_by, outcome_by
 use Rattle.refusals.specs.Outcome.{Outcome, outcome}
 use Rattle.reader.specs.declared.Asked.TheVariants.{Proper}
 use Rattle.reader.specs.Reads.{reading_values, reading_in, user_bits_in, reads_as}
-use Rattle.captures.specs.declared.Capture.{Capture}
-use Rattle.captures.specs.declared.Capture.TheVariants.{Found, Refused}
+use Rattle.captures.specs.declared.Found.{Found}
+use Rattle.reader.specs.declared.Reading.{Reading}
+
+-- the reading of the window at a place
+abbrev pub found_with : ℕ → Reading → Found
+found_with p reading = record { place = p; reading = reading }
 
 -- the values of each answer: the number, 0 where nothing is refused, and those of the reading, at its place
-abbrev pub capture_values : Capture → List ℕ
-capture_values (Found p reading) = 0 ∷ reading_values p reading
-capture_values (Refused refusal) = refusal_number refusal ∷ []
+abbrev pub capture_values : Result Found Refusal → List ℕ
+capture_values (Ok found) = 0 ∷ reading_values found.place found.reading
+capture_values (Err refusal) = refusal_number refusal ∷ []
 
 -- a capture has at most this many bits
 abbrev pub capture_limit : ℕ
@@ -51,8 +55,8 @@ format_at s p = cond (accepts_as Long s p) Long Short
 unfoldable pub window_found : List ℕ → ℕ → List ℕ
 window_found s p = window_at (format_at s p) s p
 
-unfoldable pub found_at : List ℕ → ℕ → Capture
-found_at s p = Found p (reading_in (format_at s p) (window_found s p))
+unfoldable pub found_at : List ℕ → ℕ → Result Found Refusal
+found_at s p = Ok (found_with p (reading_in (format_at s p) (window_found s p)))
 
 -- when each refusal applies to a capture
 unfoldable pub search_table : List ℕ → List (Row Refusal)
@@ -62,13 +66,13 @@ search_table s =
     ∷ NoPlace when not (is_found (first_place s))
     ∷ []
 
-unfoldable pub search_of : List ℕ → Capture
-search_of s = answer_by Refused (found_at s (which_found (first_place s))) (verdict (search_table s))
+unfoldable pub search_of : List ℕ → Result Found Refusal
+search_of s = answer_by Err (found_at s (which_found (first_place s))) (verdict (search_table s))
 
 -- the accepted stretch of the capture, or an empty one
-abbrev pub stretch_as : List ℕ → Capture → List ℕ
-stretch_as s (Found p reading) = window_at reading.format s p
-stretch_as s (Refused refusal) = []
+abbrev pub stretch_as : List ℕ → Result Found Refusal → List ℕ
+stretch_as s (Ok found) = window_at found.reading.format s found.place
+stretch_as s (Err refusal) = []
 
 unfoldable pub stretch_of : List ℕ → List ℕ
 stretch_of s = stretch_as s (search_of s)
@@ -83,11 +87,11 @@ search_read_table room s =
     ∷ NoPlace when not (is_found (first_place s))
     ∷ []
 
-unfoldable pub found_out : List ℕ → ℕ → List ℕ → Outcome Capture
+unfoldable pub found_out : List ℕ → ℕ → List ℕ → Outcome (Result Found Refusal)
 found_out s p out =
     let format = format_at s p in
     outcome (found_at s p) (user_bits_in format (window_found s p) ++ drop (numbers_of format).m out)
 
-unfoldable pub search_read_of : List ℕ → List ℕ → Outcome Capture
+unfoldable pub search_read_of : List ℕ → List ℕ → Outcome (Result Found Refusal)
 search_read_of s out =
-    outcome_by Refused out (found_out s (which_found (first_place s)) out) (verdict (search_read_table (length out) s))
+    outcome_by Err out (found_out s (which_found (first_place s)) out) (verdict (search_read_table (length out) s))

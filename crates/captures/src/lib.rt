@@ -9,40 +9,25 @@ ghost use Rattle.captures.specs.Captures.{window_at, first_place, search_of, str
 ghost use Rattle.captures.specs.Attempts.{attempt_of, out_found};
 ghost use Rattle.captures.specs.Tested.{TestedFor};
 
-use formats::format;
 use formats::format::{Format, Long};
-use reader::{Asked, ReadAnswer, Reading, tested};
+use reader::{Asked, Reading, Window, tested};
 use refusals::Refusal;
 
 // A capture has at most this many bits.
 pub const LIMIT: usize = 7500;
 
-// What searching a capture answers: the first place at which a window is read, with its reading, or a refusal.
+// What searching a capture finds: the first place at which a window is read, with its reading.
 #[derive(Clone, Copy)]
-pub enum Capture {
-    Found { place: usize, reading: Reading },
-    Refused(Refusal),
+pub struct Found {
+    pub place: usize,
+    pub reading: Reading,
 }
 
-// What the tests before the search answer: a capture to search, with room for what is found, or refusal 1, 2 or 3.
-#[derive(Clone, Copy)]
-pub enum Tested {
-    Clean,
-    Refused(Refusal),
-}
-
-// What one try answers.
-#[derive(Clone, Copy)]
-enum Tried {
-    Reads(Reading),
-    Nothing,
-}
-
-// The format's window at the place; empty where all of it does not fit in the capture.
+// The format's window at the place; empty where all of it does not fit in the capture, and not an Option, since document 01 has the stretch so.
 pub fn window_at(format: Format, capture: &[u8], place: usize) -> &[u8]
     ensures { result.now ≡ window_at format capture.now place }
 {
-    let size = format::window_bits(format);
+    let size = format.window_bits();
     if capture.len() < size {
         return &capture[..0];
     }
@@ -54,77 +39,69 @@ pub fn window_at(format: Format, capture: &[u8], place: usize) -> &[u8]
 }
 
 // One try: reads the format's window at the place of a capture whose bytes are known to be bits. The ends are tested first: a place
-// whose ends differ costs a few comparisons.
-fn attempt(format: Format, capture: &[u8], place: usize, output: &mut [u8]) -> Tried
-    requires t { T (all_bits capture.now) }
+// whose ends differ costs a comparison of r bytes at the most.
+fn attempt(format: Format, capture: &[u8], place: usize, output: &mut [u8]) -> Option<Reading>
+    requires are_bits { T (all_bits capture.now) }
     requires format_in_bounds { (numbers_of format).m ≤ length output.old }
     ensures { attempt_of format capture.now place output.old ≡ outcome result output.new }
 {
-    let window = window_at(format, capture, place);
-    if window.len() == 0 {
-        return Tried::Nothing;
+    let bits = window_at(format, capture, place);
+    if bits.len() == 0 {
+        return None;
     }
-    if !tested::ends_agree(format, window) {
-        return Tried::Nothing;
+    if !tested::ends_agree(format, bits) {
+        return None;
     }
-    let answer = tested::read_bits(Asked::Proper, format, window, output);
-    match answer {
-        ReadAnswer::Read(reading) => Tried::Reads(reading),
-        ReadAnswer::Refused(_) => Tried::Nothing,
-    }
+    let window = Window { format, bits };
+    tested::read_bits(Asked::Proper, window, output).ok()
 }
 
 // The first place at which read accepts, of a capture of any length whose bytes are known to be bits: places from 0 up, long before
 // short at one place, as far as a short window fits. Not a call of the bench.
-pub fn search_bits(capture: &[u8], output: &mut [u8]) -> Capture
-    requires t { T (all_bits capture.now) }
+pub fn search_bits(capture: &[u8], output: &mut [u8]) -> Result<Found, Refusal>
+    requires are_bits { T (all_bits capture.now) }
     requires m_in_bounds { long.m ≤ length output.old }
     ensures { out_found capture.now output.old (first_place capture.now) ≡ outcome result output.new }
 {
-    let shortest = format::window_bits(Format::Short);
-    let mut place = 0;
-    while place + shortest <= capture.len() {
-        if let Tried::Reads(reading) = attempt(Format::Long, capture, place, output) {
-            return Capture::Found { place, reading };
+    let places = (capture.len() + 1).saturating_sub(Format::Short.window_bits());
+    for place in 0..places {
+        if let Some(reading) = attempt(Format::Long, capture, place, output) {
+            return Ok(Found { place, reading });
         }
-        if let Tried::Reads(reading) = attempt(Format::Short, capture, place, output) {
-            return Capture::Found { place, reading };
+        if let Some(reading) = attempt(Format::Short, capture, place, output) {
+            return Ok(Found { place, reading });
         }
-        place += 1;
     }
-    Capture::Refused(Refusal::NoPlace)
+    Err(Refusal::NoPlace)
 }
 
-// Tests a capture, and the length of the output that is lent for the user bits of either format.
-pub fn test(capture: &[u8], room: usize) -> Tested
+// Tests a capture, and the length of the output that is lent for the user bits of either format: refusal 1, 2 or 3.
+pub fn test(capture: &[u8], room: usize) -> Result<(), Refusal>
     ensures { (out : List ℕ) → length out ≡ room → TestedFor capture.now out result }
 {
     if LIMIT < capture.len() {
-        return Tested::Refused(Refusal::Length);
+        return Err(Refusal::Length);
     }
     if !bits::all_bits(capture) {
-        return Tested::Refused(Refusal::NotBit);
+        return Err(Refusal::NotBit);
     }
     if room < Long::M {
-        return Tested::Refused(Refusal::OutputShort);
+        return Err(Refusal::OutputShort);
     }
-    Tested::Clean
+    Ok(())
 }
 
 // The first place at which read accepts, by the plain search, and the user bits of the window there over the front of output, which has
 // room for those of either format. A refusal keeps every byte of output.
-pub fn search_read(capture: &[u8], output: &mut [u8]) -> Capture
+pub fn search_read(capture: &[u8], output: &mut [u8]) -> Result<Found, Refusal>
     ensures { search_read_of capture.now output.old ≡ outcome result output.new }
 {
-    let tested = test(capture, output.len());
-    match tested {
-        Tested::Refused(refusal) => Capture::Refused(refusal),
-        Tested::Clean => search_bits(capture, output),
-    }
+    test(capture, output.len())?;
+    search_bits(capture, output)
 }
 
 // The first place at which read accepts, by the plain search.
-pub fn search(capture: &[u8]) -> Capture
+pub fn search(capture: &[u8]) -> Result<Found, Refusal>
     ensures { result ≡ search_of capture.now }
 {
     let mut output = [0u8; Long::M];
@@ -135,10 +112,8 @@ pub fn search(capture: &[u8]) -> Capture
 pub fn stretch(capture: &[u8]) -> &[u8]
     ensures { result.now ≡ stretch_of capture.now }
 {
-    let Capture::Found { place, reading } = search(capture) else {
-        return &capture[..0];
-    };
-    let format = reading.format;
-    let end = place + format::window_bits(format);
-    &capture[place..end]
+    match search(capture) {
+        Ok(found) => window_at(found.reading.format, capture, found.place),
+        Err(_) => &capture[..0],
+    }
 }

@@ -28,23 +28,22 @@ use Rattle.telegrams.proofs.WellFormed.{parts}
 use Rattle.conditions.specs.Conditions.{proper}
 use Rattle.conditions.specs.FirstFailing.{condition_table}
 use Rattle.conditions.proofs.FirstFailing.{conditions_rise, proper_tested}
-use Rattle.checker.specs.declared.Checked.{Checked}
-use Rattle.checker.specs.declared.Checked.TheVariants.{Proper, Refused}
 use Rattle.checker.specs.Checking.{format_of, check_table, check_as, check_of}
 use Rattle.checker.specs.Checks.{Checks}
 use Rattle.checker.proofs.Steps.{decided, any_bytes, format_is}
 use Rattle.checker.proofs.WellFormed.{Formed, control_and_check, is_well_formed, formed_passed, form_passed}
+use Rattle.std.specs.Prelude.{Result, Ok, Err}
 
 -- ---- refusals
 
 -- what an answer says
-abbrev said : Checked → Verdict Refusal
-said (Proper format) = accepted
-said (Refused r) = refused r
+abbrev said : Result Format Refusal → Verdict Refusal
+said (Ok format) = accepted
+said (Err r) = refused r
 
-refused_only : (a : Checked) (r : Refusal) → said a ≡ refused r → a ≡ Refused r
-refused_only (Proper format) r e = clash cc
-refused_only (Refused q) r e = cc
+refused_only : (a : Result Format Refusal) (r : Refusal) → said a ≡ refused r → a ≡ Err r
+refused_only (Ok format) r e = clash cc
+refused_only (Err q) r e = cc
 
 rises : (format : Format) (b : List ℕ) → T (rises_above refusal_number 0 (check_table format b))
 unfolding rises_above check_table
@@ -52,11 +51,11 @@ rises format b = conditions_rise format b 9 (omega arith)
 
 said_is : (b : List ℕ) → said (check_of b) ≡ verdict (check_table (format_of b) b)
 unfolding check_of check_as
-said_is b = answer_said Refused said (λ r. refl) (Proper (format_of b)) refl (verdict (check_table (format_of b) b))
+said_is b = answer_said Err said (λ r. refl) (Ok (format_of b)) refl (verdict (check_table (format_of b) b))
 
-refuses : (b : List ℕ) → RefusesBy refusal_number Refused (check_table (format_of b) b) (check_of b)
+refuses : (b : List ℕ) → RefusesBy refusal_number Err (check_table (format_of b) b) (check_of b)
 refuses b =
-    refuses_by Refused said (λ r. refl) refused_only refusal_number (check_table (format_of b) b) (rises (format_of b) b) (check_of b) (said_is b)
+    refuses_by Err said (λ r. refl) refused_only refusal_number (check_table (format_of b) b) (rises (format_of b) b) (check_of b) (said_is b)
 
 -- ---- the proper telegrams
 
@@ -86,13 +85,13 @@ no_row_proper format b (size, (bits, (divides, (turn, (controlled, (words, condi
     (proper_tested format b).1 (formed, no_row_accepted (condition_table format b) conditions)
 
 accepted_proper : (format : Format) (b : List ℕ) (v : Verdict Refusal) → verdict (check_table (format_of b) b) ≡ v
-    → answer_by Refused (Proper (format_of b)) v ≡ Proper format → T (proper format b)
+    → answer_by Err (Ok (format_of b)) v ≡ Ok format → T (proper format b)
 accepted_proper format b (refused r) e f = clash cc
 accepted_proper format b accepted e f =
     let same : format_of b ≡ format = cc in
     subst (λ (g : Format). T (proper g b)) same (no_row_proper (format_of b) b (accepted_no_row (check_table (format_of b) b) e))
 
-proper_accepted : (format : Format) (b : List ℕ) → T (proper format b) → check_of b ≡ Proper format
+proper_accepted : (format : Format) (b : List ℕ) → T (proper format b) → check_of b ≡ Ok format
 proper_accepted format b h =
     let (well, conditions) = (proper_tested format b).0 h in
     any_bytes b
@@ -100,7 +99,7 @@ proper_accepted format b h =
     ∙ decided format b accepted (form_passed format b well accepted (record { verdict_is = conditions }))
 
 -- the proper telegrams are accepted, and no others
-accepts : (format : Format) (b : List ℕ) → (check_of b ≡ Proper format) ↔ T (proper format b)
+accepts : (format : Format) (b : List ℕ) → (check_of b ≡ Ok format) ↔ T (proper format b)
 unfolding check_of check_as
 accepts format b = (accepted_proper format b (verdict (check_table (format_of b) b)) refl, proper_accepted format b)
 
@@ -124,7 +123,7 @@ refused_named format b bad e =
 
 -- and the other way
 named_refused : (format : Format) (b : List ℕ) (bad : BadWord) → ControlAndCheck (numbers_of format) b → IsFirstBad (numbers_of format).words b bad
-    → check_of b ≡ Refused (NotWord bad)
+    → check_of b ≡ Err (NotWord bad)
 unfolding check_table
 named_refused format b bad c first =
     let F = numbers_of format in
@@ -132,10 +131,10 @@ named_refused format b bad c first =
     any_bytes b
     ∙ ap (λ (f : Format). check_as f b) (format_is format b c.size)
     ∙ decided format b _ (formed_passed format b c _ (failed some))
-    ∙ ap (λ (x : BadWord). Refused (NotWord x)) is
+    ∙ ap (λ (x : BadWord). Err (NotWord x)) is
 
 names : (b : List ℕ) (bad : BadWord)
-    → (check_of b ≡ Refused (NotWord bad)) ↔ (let F = numbers_of (format_of b) in ControlAndCheck F b × IsFirstBad F.words b bad)
+    → (check_of b ≡ Err (NotWord bad)) ↔ (let F = numbers_of (format_of b) in ControlAndCheck F b × IsFirstBad F.words b bad)
 names b bad = (
   λ e. refused_named (format_of b) b bad (sym (said_is b) ∙ ap said e),
   λ p. named_refused (format_of b) b bad p.0 p.1,

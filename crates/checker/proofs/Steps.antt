@@ -9,13 +9,13 @@ use Rattle.formats.proofs.Fits.{picks, telegrams_apart}
 use Rattle.refusals.specs.declared.Refusal.{Refusal}
 use Rattle.refusals.specs.Table.{Verdict, answer_by}
 use Rattle.refusals.proofs.Table.{Decides}
-use Rattle.checker.specs.declared.Checked.TheVariants.{Proper, Refused}
 use Rattle.checker.specs.Checking.{format_of, check_table, check_as, check_of}
+use Rattle.std.specs.Prelude.{Ok, Err}
 
 pub decided : (format : Format) (b : List ℕ) (v : Verdict Refusal) → Decides (check_table format b) v
-    → check_as format b ≡ answer_by Refused (Proper format) v
+    → check_as format b ≡ answer_by Err (Ok format) v
 unfolding check_as
-decided format b v d = ap (answer_by Refused (Proper format)) d.verdict_is
+decided format b v d = ap (answer_by Err (Ok format)) d.verdict_is
 
 -- any bytes are held to the format that their number picks
 pub any_bytes : (b : List ℕ) → check_of b ≡ check_as (format_of b) b

@@ -1,6 +1,6 @@
 -- What checking a telegram answers (document 01, "When the bench says no"; document 02, No. 13).
 -- Assumes nothing.
-use Rattle.std.specs.Prelude.{ℕ, not, List, [], ◌∷◌, eqb, length}
+use Rattle.std.specs.Prelude.{ℕ, not, List, [], ◌∷◌, eqb, length, Result, Ok, Err}
 use Rattle.bits.specs.Bits.{all_bits, same}
 use Rattle.formats.specs.declared.format.Format.{Format}
 use Rattle.formats.specs.Numbers.{short, numbers_of, format_for}
@@ -13,13 +13,11 @@ use Rattle.telegrams.specs.Telegram.{control}
 use Rattle.telegrams.specs.Fields.{control_of, all_words}
 use Rattle.telegrams.specs.Worded.{bad_word}
 use Rattle.conditions.specs.FirstFailing.{condition_table}
-use Rattle.checker.specs.declared.Checked.{Checked}
-use Rattle.checker.specs.declared.Checked.TheVariants.{Proper, Refused}
 
 -- the values of each answer: the number, 0 where nothing is refused, and the format; or those of the refusal
-abbrev pub checked_values : Checked → List ℕ
-checked_values (Proper format) = 0 ∷ format_number format ∷ []
-checked_values (Refused refusal) = refusal_values refusal
+abbrev pub checked_values : Result Format Refusal → List ℕ
+checked_values (Ok format) = 0 ∷ format_number format ∷ []
+checked_values (Err refusal) = refusal_values refusal
 
 -- the format that the number of bytes picks
 abbrev pub format_of : List ℕ → Format
@@ -37,9 +35,9 @@ check_table format b =
     ∷ NotWord (bad_word F.words b) when not (all_words F.words b)
     ∷ condition_table format b
 
-unfoldable pub check_as : Format → List ℕ → Checked
-check_as format b = answer_by Refused (Proper format) (verdict (check_table format b))
+unfoldable pub check_as : Format → List ℕ → Result Format Refusal
+check_as format b = answer_by Err (Ok format) (verdict (check_table format b))
 
 -- any bytes
-unfoldable pub check_of : List ℕ → Checked
+unfoldable pub check_of : List ℕ → Result Format Refusal
 check_of b = check_as (format_of b) b

@@ -1,13 +1,20 @@
--- A test that holds of each of k numbers: of each by itself, and in a loop that tests one after the other. Assumes nothing.
+-- A test that holds of each of k numbers: of each by itself, and as `all` over a range tests one after the other. Assumes nothing.
 use mathlib.Core.Path.{◌≡◌, refl, sym, ap, ◌∙◌, subst}
-use mathlib.Core.Bool.{Bool, true, false, ◌&&◌}
-use Prim.Native.Nat.{ℕ, zero, suc, ◌+◌, ◌-◌, ◌≤◌, ◌<◌}
+use mathlib.Core.Bool.{Bool, ◌&&◌}
+use Prim.Native.Nat.{ℕ, zero, suc, ◌+◌, ◌-◌, ◌<◌}
 use native.Mathlib.Nat.{add-zero, le_of_suc-le-suc}
 use native.Mathlib.Numerals.{add-one}
 use native.Mathlib.Omega.{arith}
 use lib.Dec.{T}
+use denote.Param.Members.{Mut}
+use Rattle.std.proofs.iter.Yields.{nat_range_steps}
+use Rattle.std.proofs.lemmas.Iterator.{YieldsList-from_range}
+use Rattle.std.proofs.lemmas.Iterator.Search.{all_from_yields_List}
+use Rattle.std.specs.declared.ops.Range.{Range}
+use Rattle.std.specs.Fn.{Called}
+use Rattle.std.specs.Iterator.{ChecksAll}
+use Rattle.std.specs.List.{list_all, range_with_len}
 use Rattle.bits.proofs.And.{and_left, and_right, and_of}
-use Rattle.bits.proofs.Rest.{count_more, count_done}
 use Rattle.conditions.specs.Conditions.{each}
 
 -- where it holds of each it holds of the j-th
@@ -34,37 +41,16 @@ each_follows s t i (suc k) follows h =
     and_of (t i) (each t (suc i) k) (follows i (omega arith) (and_left (s i) (each s (suc i) k) h))
     (each_follows s t (suc i) k (λ j below. follows j (omega arith)) (and_right (s i) (each s (suc i) k) h))
 
--- one number is next, and the rest after it
-pub each_more : (test : ℕ → Bool) (i e : ℕ) → i < e → each test i (e - i) ≡ test i && each test (i + 1) (e - (i + 1))
+-- the numbers of a range, one after the other
+each_is_list_all : (test : ℕ → Bool) (i k : ℕ) → list_all test (range_with_len i k) ≡ each test i k
 unfolding each
-each_more test i e h = rw (count_more h, add-one i)
+each_is_list_all test i zero = refl
+each_is_list_all test i (suc k) = ap (λ (x : Bool). test i && x) (rw (add-one i) (each_is_list_all test (suc i) k))
 
--- no number is left
-pub each_done : (test : ℕ → Bool) (i e : ℕ) → e ≤ i → each test i (e - i) ≡ true
-unfolding each
-each_done test i e h = rw (count_done h)
-
--- a loop that tests numbers up to e: those before i have passed, so that the answer for the whole is the one for the rest
-pub record Passed (test : ℕ → Bool) (whole : Bool) (i e : ℕ) : Type 0 where
-  pub within : i ≤ e
-  pub rest : whole ≡ each test i (e - i)
-
--- none is tested yet
-pub passed_none : (test : ℕ → Bool) (i k : ℕ) → Passed test (each test i k) i (i + k)
-passed_none test i k =
+-- `all` over a range, where the closure computes the test
+pub each_from_all : {F : Type 0} {g : Mut F (ℕ × Unit {0}) Bool} (test : ℕ → Bool) (i k : ℕ) (u : Range ℕ) (f : F) (r : Bool)
+    → ChecksAll nat_range_steps g (record { start = i; end = i + k }) f r u
+    → ((x : ℕ) (b : Bool) (q : F) → Called g f (x, tt) b q → (q ≡ f) × (b ≡ test x)) → r ≡ each test i k
+each_from_all test i k u f r ran computes =
     let count : i + k - i ≡ k = omega arith in
-    record { within = omega arith; rest = rw count }
-
--- the next passes
-pub passed_more : {test : ℕ → Bool} {whole : Bool} {i e : ℕ} → Passed test whole i e → i < e → test i ≡ true → Passed test whole (i + 1) e
-passed_more {test} {i} {e} p h t =
-    record { within = omega arith; rest = p.rest ∙ each_more test i e h ∙ ap (λ (x : Bool). x && each test (i + 1) (e - (i + 1))) t }
-
--- the next fails, and so does the whole
-pub passed_fails : {test : ℕ → Bool} {whole : Bool} {i e : ℕ} → Passed test whole i e → i < e → test i ≡ false → false ≡ whole
-passed_fails {test} {i} {e} p h t =
-    sym (p.rest ∙ each_more test i e h ∙ ap (λ (x : Bool). x && each test (i + 1) (e - (i + 1))) t)
-
--- all have passed
-pub passed_done : {test : ℕ → Bool} {whole : Bool} {i e : ℕ} → Passed test whole i e → e ≤ i → true ≡ whole
-passed_done {test} {i} {e} p h = sym (p.rest ∙ each_done test i e h)
+    all_from_yields_List test u f r ran (YieldsList-from_range i (i + k) k refl count) computes ∙ each_is_list_all test i k

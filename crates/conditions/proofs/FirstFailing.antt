@@ -16,26 +16,20 @@ use Rattle.refusals.specs.Refused.{refusal_number}
 use Rattle.refusals.specs.Table.{Verdict, refused, accepted, ◌when◌, verdict, accepts, answer_by, rises_above}
 use Rattle.refusals.proofs.Table.{accepts_only}
 use Rattle.telegrams.specs.Fields.{well_formed}
-use Rattle.conditions.specs.declared.Failing.{Failing}
-use Rattle.conditions.specs.declared.Failing.TheVariants.{First, None}
 use Rattle.conditions.specs.Conditions.{off_step_within, not_repeating, thinned_within, proper}
 use Rattle.conditions.specs.FirstFailing.{condition_table, first_failing}
+use Rattle.std.specs.Prelude.{Ok, Err, is_ok}
 
--- whether all hold, by what fails
-abbrev pub none_fails : Failing → Bool
-none_fails (First r) = false
-none_fails None = true
-
-by_verdict : (v : Verdict Refusal) → none_fails (answer_by First None v) ≡ accepts v
+by_verdict : (v : Verdict Refusal) → is_ok (answer_by Err (Ok (tt {0})) v) ≡ accepts v
 by_verdict (refused r) = refl
 by_verdict accepted = refl
 
 -- what fails tells the verdict
-pub first_refused : (v : Verdict Refusal) (r : Refusal) → answer_by First None v ≡ First r → v ≡ refused r
+pub first_refused : (v : Verdict Refusal) (r : Refusal) → answer_by Err (Ok (tt {0})) v ≡ Err r → v ≡ refused r
 first_refused (refused q) r e = cc
 first_refused accepted r e = clash cc
 
-pub none_accepted : (v : Verdict Refusal) → answer_by First None v ≡ None → v ≡ accepted
+pub none_accepted : (v : Verdict Refusal) → answer_by Err (Ok (tt {0})) v ≡ Ok (tt {0}) → v ≡ accepted
 none_accepted (refused q) e = clash cc
 none_accepted accepted e = refl
 
@@ -55,12 +49,12 @@ module _ (format : Format) (b : List ℕ) where
   unfolding condition_table
   all_hold = three_rows (off_step_within format b) (not_repeating format b) (thinned_within format b)
 
-  pub failing_is : first_failing format b ≡ answer_by First None (verdict (condition_table format b))
+  pub failing_is : first_failing format b ≡ answer_by Err (Ok (tt {0})) (verdict (condition_table format b))
   unfolding first_failing
   failing_is = refl
 
-  pub none_fails_lem : none_fails (first_failing format b) ≡ off_step_within format b && (not_repeating format b && thinned_within format b)
-  none_fails_lem = ap none_fails failing_is ∙ by_verdict (verdict (condition_table format b)) ∙ all_hold
+  pub conditions_hold : is_ok (first_failing format b) ≡ off_step_within format b && (not_repeating format b && thinned_within format b)
+  conditions_hold = ap is_ok failing_is ∙ by_verdict (verdict (condition_table format b)) ∙ all_hold
 
   pub proper_tested : T (proper format b) ↔ (T (well_formed (numbers_of format) b) × (verdict (condition_table format b) ≡ accepted))
   unfolding proper

@@ -1,11 +1,11 @@
 // Condition 3, of the long format only (document 01, "Four conditions of a proper telegram").
-ghost use Rattle.std.specs.Prelude.{◌≡◌, ℕ, ◌-◌, ◌*◌, ◌≤◌, ◌<◌, T, length};
-ghost use Rattle.bits.specs.Bits.{all_bits};
-ghost use Rattle.formats.specs.Numbers.{long, numbers_of};
+ghost use Rattle.std.specs.Prelude.{◌≡◌, ℕ, ◌-◌, ◌*◌, ◌≤◌, ◌<◌, length};
+ghost use Rattle.formats.specs.Numbers.{long};
 ghost use Rattle.conditions.specs.Conditions.{from_to, apart, shifted_apart, not_repeating};
 
 use crate::ring;
 use formats::format::{Format, Long};
+use telegrams::Telegram;
 
 // Whether the 22 bits from place p differ in at least d places from those that stand k places on. When d places differ, the others are
 // not looked at.
@@ -16,8 +16,7 @@ fn apart(d: usize, b: &[u8], p: usize, k: usize) -> bool
     let mut count: usize = 0;
     let mut at = p;
     let mut other = ring::place_after(p, k, b.len());
-    let mut i: usize = 0;
-    while i < 22 {
+    for _i in 0..22usize {
         if d <= count {
             return true;
         }
@@ -26,7 +25,6 @@ fn apart(d: usize, b: &[u8], p: usize, k: usize) -> bool
         }
         at = ring::place_after(at, 1, b.len());
         other = ring::place_after(other, 1, b.len());
-        i += 1;
     }
     d <= count
 }
@@ -36,18 +34,7 @@ fn shifted_apart(b: &[u8], p: usize) -> bool
     requires { (length b.now ≡ long.n) × (p < long.n) }
     ensures { result ≡ shifted_apart b.now p }
 {
-    if !apart(3, b, p, 341) {
-        return false;
-    }
-    for k in 1..4 {
-        if !apart(2, b, p, 341 + k) {
-            return false;
-        }
-        if !apart(2, b, p, 341 - k) {
-            return false;
-        }
-    }
-    true
+    apart(3, b, p, 341) && (1..4).all(|k| apart(2, b, p, 341 + k) && apart(2, b, p, 341 - k))
 }
 
 // Whether condition 3 holds at each word of a long telegram.
@@ -55,21 +42,15 @@ fn each_shifted_apart(b: &[u8]) -> bool
     requires { length b.now ≡ long.n }
     ensures { result ≡ from_to 0 (long.words - 1) (λ (j : ℕ). shifted_apart b.now (11 * j)) }
 {
-    for j in 0..Long::WORDS {
-        if !shifted_apart(b, 11 * j) {
-            return false;
-        }
-    }
-    true
+    (0..Long::WORDS).all(|j| shifted_apart(b, 11 * j))
 }
 
 // Whether condition 3 holds.
-pub fn not_repeating(format: Format, b: &[u8]) -> bool
-    requires { T (all_bits b.now) × (length b.now ≡ (numbers_of format).n) }
-    ensures { result ≡ not_repeating format b.now }
+pub fn not_repeating(telegram: Telegram<'_>) -> bool
+    ensures { result ≡ not_repeating telegram.entry.format telegram.entry.bits.now }
 {
-    match format {
-        Format::Long => each_shifted_apart(b),
+    match telegram.format {
+        Format::Long => each_shifted_apart(telegram.bits),
         Format::Short => true,
     }
 }

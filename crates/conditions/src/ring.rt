@@ -18,11 +18,9 @@ fn word_by_bits(b: &[u8], p: usize) -> u16
 {
     let mut x: u16 = 0;
     let mut at = p;
-    let mut i: usize = 0;
-    while i < 11 {
+    for _i in 0..11usize {
         x = x * 2 + b[at] as u16;
         at = place_after(at, 1, b.len());
-        i += 1;
     }
     x
 }

@@ -11,12 +11,10 @@ fn up_to_invalid(b: &[u8], p: usize, count: usize) -> usize
     requires { T (all_bits b.now) × ((p < length b.now) × (11 * count ≤ length b.now)) }
     ensures { result ≡ up_to_invalid count p b.now }
 {
-    let mut left = count;
-    while 0 < left {
-        if !ring::is_word_at(b, ring::place_after(p, 11 * (left - 1), b.len())) {
-            return left;
+    for k in (0..count).rev() {
+        if !ring::is_word_at(b, ring::place_after(p, 11 * k, b.len())) {
+            return k + 1;
         }
-        left -= 1;
     }
     0
 }
@@ -24,13 +22,14 @@ fn up_to_invalid(b: &[u8], p: usize, count: usize) -> usize
 // Whether no run of valid words over limit begins at one of the first `starts` words from place p on, going round. One that does has span
 // valid words: none of the next span words up to the last invalid one can begin it.
 pub fn none_over(b: &[u8], p: usize, starts: usize, limit: usize) -> bool
-    requires t { T (all_bits b.now) × (p < length b.now) }
+    requires are_bits { T (all_bits b.now) × (p < length b.now) }
     requires starts_in_bounds { (11 * starts ≤ length b.now) × (11 * (limit + 1) ≤ length b.now) }
     ensures { result ≡ leb (longest (valid_words (starts + limit) p b.now)) limit }
 {
     let span = limit + 1;
     let mut at = p;
     let mut i: usize = 0;
+    // A while, since i goes on past the last invalid word, and not by one.
     while i < starts {
         let past = up_to_invalid(b, at, span);
         if past == 0 {
@@ -44,7 +43,7 @@ pub fn none_over(b: &[u8], p: usize, starts: usize, limit: usize) -> bool
 
 // Whether no run of valid words round the ring, whose words from place p on are `words`, exceeds limit: one that does begins at one of these.
 pub fn within(b: &[u8], p: usize, words: usize, limit: usize) -> bool
-    requires t { T (all_bits b.now) × (p < length b.now) }
+    requires are_bits { T (all_bits b.now) × (p < length b.now) }
     requires words_value { (11 * words ≡ length b.now) × (limit < words) }
     ensures { result ≡ leb (longest_round (valid_words words p b.now)) limit }
 {

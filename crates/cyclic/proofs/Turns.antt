@@ -6,8 +6,6 @@ use lib.ListN.{replicate-append-replicate}
 use Rattle.bits.specs.Bits.{same}
 use Rattle.bits.specs.Search.{First, found, none as missing, first_of}
 use Rattle.formats.specs.Numbers.{Numbers, f_of, g_of}
-use Rattle.cyclic.specs.declared.Turn.{Turn}
-use Rattle.cyclic.specs.declared.Turn.TheVariants.{At, Nothing}
 use Rattle.cyclic.specs.Remainder.{step, remainder}
 use Rattle.cyclic.specs.Check.{turn_remainder, leaves, turn_from, turn_of}
 use Rattle.bits.proofs.And.{and_left, and_right}
@@ -20,6 +18,7 @@ use Rattle.cyclic.proofs.Registers.{Reg, same_bits, Mod, none, tail}
 use Rattle.cyclic.proofs.Remainders.{remainder-next}
 use Rattle.cyclic.proofs.Facts.{Facts, never}
 use Rattle.cyclic.proofs.Cyclic.{mod_f, rem_f, turn_is, g_round}
+use Rattle.std.specs.Prelude.{Option, Some, None}
 
 -- what `never` tests: none of the first k shifts of s is o
 never_is : (d : ℕ) (t s : Reg (suc d)) (o : List ℕ) (k i : ℕ) → T (never t.of o s.of k) → i < k → (pow (Mod d t) i s).of ≡ o → ⊥
@@ -78,31 +77,31 @@ turn-next F s =
     ∙ remainder-next (f_of F) (g_of F ++ zeros s) 0
 
 -- the turn that is answered is below n and leaves v
-pub turn_of-at : (F : Numbers) (t : ℕ) (v : List ℕ) → turn_of F v ≡ At t → (t < F.n) × (turn_remainder F t ≡ v)
+pub turn_of-at : (F : Numbers) (t : ℕ) (v : List ℕ) → turn_of F v ≡ Some t → (t < F.n) × (turn_remainder F t ≡ v)
 unfolding turn_of
 turn_of-at F t v e = go (first_of (leaves F v) 0 F.n) (first_says (leaves F v) 0 F.n) e
   where
-    go : (a : First) → Says (leaves F v) 0 F.n a → turn_from a ≡ At t → (t < F.n) × (turn_remainder F t ≡ v)
+    go : (a : First) → Says (leaves F v) 0 F.n a → turn_from a ≡ Some t → (t < F.n) × (turn_remainder F t ≡ v)
     go (found s) f e =
         let at : s ≡ t = cc in
         rw (← at) (omega (arith, f.below), same_true (turn_remainder F s) v f.passed)
     go missing f e = clash cc
 
 -- where none is answered, none below n leaves v
-pub turn_of_nothing : (F : Numbers) (v : List ℕ) → turn_of F v ≡ Nothing → (t : ℕ) → t < F.n → turn_remainder F t ≡ v → ⊥
+pub turn_of_nothing : (F : Numbers) (v : List ℕ) → turn_of F v ≡ None → (t : ℕ) → t < F.n → turn_remainder F t ≡ v → ⊥
 unfolding turn_of
 turn_of_nothing F v e t h r = go (first_of (leaves F v) 0 F.n) (first_says (leaves F v) 0 F.n) e
   where
-    go : (a : First) → Says (leaves F v) 0 F.n a → turn_from a ≡ Nothing → ⊥
+    go : (a : First) → Says (leaves F v) 0 F.n a → turn_from a ≡ None → ⊥
     go (found s) f e = clash cc
     go missing f e = not_both (leaves F v t) (equal_same (turn_remainder F t) v r) (f t (omega arith) (omega arith))
 
 -- from the remainder at a turn, that turn is answered
-pub turn_of-turn : (F : Numbers) → Facts F → (t : ℕ) → t < F.n → turn_of F (turn_remainder F t) ≡ At t
+pub turn_of-turn : (F : Numbers) → Facts F → (t : ℕ) → t < F.n → turn_of F (turn_remainder F t) ≡ Some t
 turn_of-turn F A t h = go (turn_of F (turn_remainder F t)) refl
   where
-    go : (o : Turn) → turn_of F (turn_remainder F t) ≡ o → turn_of F (turn_remainder F t) ≡ At t
-    go (At s) e =
+    go : (o : Option ℕ) → turn_of F (turn_remainder F t) ≡ o → turn_of F (turn_remainder F t) ≡ Some t
+    go (Some s) e =
         let r = turn_of-at F s (turn_remainder F t) e in
-        e ∙ ap At (turn_unique F A s t r.0 h r.1)
-    go Nothing e = absurd (turn_of_nothing F (turn_remainder F t) e t h refl)
+        e ∙ ap Some (turn_unique F A s t r.0 h r.1)
+    go None e = absurd (turn_of_nothing F (turn_remainder F t) e t h refl)

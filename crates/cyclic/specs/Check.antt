@@ -1,12 +1,10 @@
 -- The check bits, and the turn of a window from its remainder by f (document 01, "Check bits" and "Search, reading and place").
 -- Assumes nothing.
-use Rattle.std.specs.Prelude.{ℕ, ◌-◌, Bool, List, ◌++◌, length, take, drop, replicate}
+use Rattle.std.specs.Prelude.{ℕ, ◌-◌, Bool, List, ◌++◌, length, take, drop, replicate, Option, Some, None}
 use Rattle.bits.specs.Bits.{same}
 use Rattle.bits.specs.Search.{First, found, none, first_of}
 use Rattle.formats.specs.Polynomial.{sum}
 use Rattle.formats.specs.Numbers.{Numbers, f_of, g_of, fg_of}
-use Rattle.cyclic.specs.declared.Turn.{Turn}
-use Rattle.cyclic.specs.declared.Turn.TheVariants.{At, Nothing}
 use Rattle.cyclic.specs.Remainder.{remainder}
 
 -- g with as many coefficients as there are check bits, 85
@@ -29,12 +27,12 @@ turn_remainder F s = remainder (f_of F) (g_of F ++ replicate s 0)
 abbrev pub leaves : Numbers → List ℕ → ℕ → Bool
 leaves F v s = same (turn_remainder F s) v
 
-abbrev pub turn_from : First → Turn
-turn_from (found s) = At s
-turn_from none = Nothing
+abbrev pub turn_from : First → Option ℕ
+turn_from (found s) = Some s
+turn_from none = None
 
 -- the turn, 0 to n-1, whose remainder by f is v, or none
-unfoldable pub turn_of : Numbers → List ℕ → Turn
+unfoldable pub turn_of : Numbers → List ℕ → Option ℕ
 turn_of F v = turn_from (first_of (leaves F v) 0 F.n)
 
 -- g divides b

@@ -1,24 +1,13 @@
 // The check bits b84 to b0 (document 01, "Check bits"): the remainder of the bits above them by f*g, plus g.
-ghost use Rattle.std.specs.Prelude.{◌≡◌, ◌/◌, ◌%◌, ◌^◌, ◌<◌, ◌≤◌, T, ◌++◌, length, drop, bit_xor};
+ghost use Rattle.std.specs.Prelude.{◌≡◌, ◌/◌, ◌%◌, ◌^◌, ◌<◌, ◌≤◌, T, ◌++◌, length, drop};
 ghost use Rattle.bits.specs.Bits.{all_bits, number_of, bits_of};
 ghost use Rattle.formats.specs.Numbers.{numbers_of};
 ghost use Rattle.formats.specs.Value.{value_of};
 ghost use Rattle.cyclic.specs.Check.{check_bits};
 
 use crate::remainder;
-use formats::format;
 use formats::format::Format;
 use formats::register::Register;
-
-// The sum of two polynomials.
-fn plus(a: Register, b: Register) -> Register
-    ensures { value_of result ≡ bit_xor (value_of a) (value_of b) }
-{
-    Register {
-        high: a.high ^ b.high,
-        low: a.low ^ b.low,
-    }
-}
 
 // The check bits of the bits above them.
 pub fn check_bits(format: Format, bits: &[u8]) -> Register
@@ -29,11 +18,10 @@ pub fn check_bits(format: Format, bits: &[u8]) -> Register
     let zeros = [0u8; 85];
     let above = remainder::remainder_fg(format, bits);
     let rest = remainder::remainder_from_fg(format, above, &zeros);
-    let g = format::g(format);
-    plus(rest, g)
+    rest ^ format.g()
 }
 
-// The coefficient of x^e.
+// The coefficient of x^e: a bit of one of two words, which no method of the library has.
 fn coefficient(r: Register, e: usize) -> u8
     requires { e < 128 }
     ensures { result ≡ value_of r / 2 ^ e % 2 }
@@ -50,9 +38,7 @@ pub fn write_check_bits(r: Register, out: &mut [u8])
     requires { 85 ≤ length out.old }
     ensures { out.new ≡ bits_of 85 (value_of r) ++ drop 85 out.old }
 {
-    let mut i = 0;
-    while i < 85 {
+    for i in 0..85 {
         out[i] = coefficient(r, 84 - i);
-        i += 1;
     }
 }

@@ -6,6 +6,7 @@ ghost use Rattle.cyclic.specs.Check.{divisible, unturned};
 
 use crate::{remainder, turning};
 use formats::format::Format;
+use formats::register::Register;
 
 // Whether g divides the bits.
 pub fn divisible(format: Format, bits: &[u8]) -> bool
@@ -13,10 +14,7 @@ pub fn divisible(format: Format, bits: &[u8]) -> bool
     ensures { result ≡ divisible (numbers_of format) bits.now }
 {
     let rest = remainder::remainder_g(format, bits);
-    if rest.high != 0 {
-        return false;
-    }
-    rest.low == 0
+    rest == Register::zero()
 }
 
 // Whether the remainder by f is that of turn 0.

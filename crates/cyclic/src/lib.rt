@@ -6,10 +6,3 @@ mod division;
 pub mod divisors;
 pub mod remainder;
 pub mod turning;
-
-// The turn that a remainder by f belongs to.
-#[derive(Clone, Copy)]
-pub enum Turn {
-    At(usize),
-    Nothing,
-}

@@ -5,8 +5,7 @@ ghost use Rattle.bits.specs.Bits.{number_of, bits_of};
 ghost use Rattle.formats.specs.Numbers.{numbers_of};
 ghost use Rattle.cyclic.specs.Check.{turn_remainder, turn_of};
 
-use crate::{Turn, division};
-use formats::format;
+use crate::division::DivisionRegister;
 use formats::format::Format;
 
 // The remainder of g by f, that of turn 0.
@@ -20,21 +19,19 @@ pub fn unturned(format: Format) -> u64
 }
 
 // The turn whose remainder by f this is, or none.
-pub fn turn(format: Format, remainder: u64) -> Turn
+pub fn turn(format: Format, remainder: u64) -> Option<usize>
     requires { remainder < 1024 }
     ensures { result ≡ turn_of (numbers_of format) (bits_of 10 remainder) }
 {
-    let f = format::f(format);
+    let f = format.f();
     let divisor = f.low;
-    let n = format::telegram_bits(format);
+    let n = format.telegram_bits();
     let mut turned = unturned(format);
-    let mut s = 0;
-    while s < n {
+    for s in 0..n {
         if turned == remainder {
-            return Turn::At(s);
+            return Some(s);
         }
-        turned = division::small_step(turned, 0, divisor, 10);
-        s += 1;
+        turned = turned.step(0, divisor, 10);
     }
-    Turn::Nothing
+    None
 }

@@ -17,24 +17,23 @@ use Rattle.refusals.specs.Refused.{refusal_number}
 use Rattle.refusals.specs.Table.{refused, verdict, rises_above}
 use Rattle.refusals.specs.Outcome.{Outcome, outcome}
 use Rattle.refusals.proofs.Table.{answer_by_lem, answer_said, refused_first, later_row, this_row}
-use Rattle.cyclic.specs.declared.Turn.TheVariants.{Nothing}
 use Rattle.conditions.proofs.FirstFailing.{conditions_rise}
 use Rattle.reader.specs.declared.Asked.{Asked}
 use Rattle.reader.specs.declared.Asked.TheVariants.{Proper, WellFormed}
-use Rattle.reader.specs.declared.ReadAnswer.{ReadAnswer}
-use Rattle.reader.specs.declared.ReadAnswer.TheVariants.{Refused}
 use Rattle.reader.specs.Reads.{format_of, turn_found, turn_in, telegram_in, telegram_table, read_table, read_out}
 use Rattle.reader.proofs.Steps.{format_of_lem}
 use Rattle.reader.proofs.Exact.{said}
 use Rattle.damage.specs.Answers.{OneOf, RefusedWith}
 use Rattle.damage.specs.Readers.{Tests, table_with, read_with}
+use Rattle.std.specs.Prelude.{Result, None, Err}
+use Rattle.reader.specs.declared.Reading.{Reading}
 
 -- ---- where they are given
 
 module _ (tests : Tests) (asked : Asked) (format : Format) (w out : List ℕ) (size : length w ≡ window_bits (numbers_of format))
     (bits : all_bits w ≡ true) where
   -- 3: the output is too short
-  pub given_3 : length out < (numbers_of format).m → read_with tests asked w out ≡ outcome (Refused OutputShort) out
+  pub given_3 : length out < (numbers_of format).m → read_with tests asked w out ≡ outcome (Err OutputShort) out
   unfolding read_with table_with read_table verdict
   given_3 lacks = rw (format_of_lem format w size, eq-eqb (length w) (window_bits (numbers_of format)) size, bits, lt-leb (numbers_of format).m (length out) lacks)
 
@@ -45,20 +44,20 @@ module _ (tests : Tests) (asked : Asked) (format : Format) (w out : List ℕ) (s
 
   module _ (room : (numbers_of format).m ≤ length out) where
     -- 5: the first test fails
-    pub given_5 : tests.ends (numbers_of format) w ≡ false → read_with tests asked w out ≡ outcome (Refused EndsDiffer) out
+    pub given_5 : tests.ends (numbers_of format) w ≡ false → read_with tests asked w out ≡ outcome (Err EndsDiffer) out
     unfolding read_with table_with read_table verdict
     given_5 e = rw (format_of_lem format w size, eq-eqb (length w) (window_bits (numbers_of format)) size, bits, le-leb (numbers_of format).m (length out) room, e)
 
     -- 6: the first holds and the second fails
     pub given_6 : tests.ends (numbers_of format) w ≡ true → tests.divided (numbers_of format) w ≡ false
-        → read_with tests asked w out ≡ outcome (Refused NotDivisible) out
+        → read_with tests asked w out ≡ outcome (Err NotDivisible) out
     unfolding read_with table_with read_table verdict
     given_6 e d =
         rw (format_of_lem format w size, eq-eqb (length w) (window_bits (numbers_of format)) size, bits, le-leb (numbers_of format).m (length out) room, e, d)
 
     -- 7: both hold, and the first n bits have the remainder of no turn
-    pub given_7 : tests.ends (numbers_of format) w ≡ true → tests.divided (numbers_of format) w ≡ true → turn_found (numbers_of format) w ≡ Nothing
-        → read_with tests asked w out ≡ outcome (Refused NoTurn) out
+    pub given_7 : tests.ends (numbers_of format) w ≡ true → tests.divided (numbers_of format) w ≡ true → turn_found (numbers_of format) w ≡ None
+        → read_with tests asked w out ≡ outcome (Err NoTurn) out
     unfolding read_with table_with read_table verdict
     given_7 e d f =
         rw
@@ -74,16 +73,16 @@ later_rise Proper format room w = conditions_rise format (telegram_in (numbers_o
 
 module _ (tests : Tests) (asked : Asked) (w out : List ℕ) where
   -- the verdict of its table, from the answer
-  verdict_with : (r : Refusal) → read_with tests asked w out ≡ outcome (Refused r) out → verdict (table_with tests asked (format_of w) (length out) w) ≡ refused r
+  verdict_with : (r : Refusal) → read_with tests asked w out ≡ outcome (Err r) out → verdict (table_with tests asked (format_of w) (length out) w) ≡ refused r
   unfolding read_with
   verdict_with r e =
       let format = format_of w in
       let v = verdict (table_with tests asked format (length out) w) in
-      sym (ap said (answer_by_lem Refused out (read_out format w out) v) ∙ answer_said Refused said (λ r. refl) (read_out format w out).answer refl v)
-      ∙ ap (λ (x : Outcome ReadAnswer). said x.answer) e
+      sym (ap said (answer_by_lem Err out (read_out format w out) v) ∙ answer_said Err said (λ r. refl) (read_out format w out).answer refl v)
+      ∙ ap (λ (x : Outcome (Result Reading Refusal)). said x.answer) e
 
   -- 5 is given only where the first test fails
-  pub only_5 : read_with tests asked w out ≡ outcome (Refused EndsDiffer) out → tests.ends (numbers_of (format_of w)) w ≡ false
+  pub only_5 : read_with tests asked w out ≡ outcome (Err EndsDiffer) out → tests.ends (numbers_of (format_of w)) w ≡ false
   unfolding table_with read_table rises_above
   only_5 e =
       let format = format_of w in
@@ -94,7 +93,7 @@ module _ (tests : Tests) (asked : Asked) (w out : List ℕ) where
       not-true (tests.ends (numbers_of format) w) (is_true (not (tests.ends (numbers_of format) w)) some)
 
   -- and 6 only where the second does
-  pub only_6 : read_with tests asked w out ≡ outcome (Refused NotDivisible) out → tests.divided (numbers_of (format_of w)) w ≡ false
+  pub only_6 : read_with tests asked w out ≡ outcome (Err NotDivisible) out → tests.divided (numbers_of (format_of w)) w ≡ false
   unfolding table_with read_table rises_above
   only_6 e =
       let format = format_of w in
@@ -107,16 +106,16 @@ module _ (tests : Tests) (asked : Asked) (w out : List ℕ) where
 
 -- where a test holds its refusal is not given
 module _ (tests : Tests) (asked : Asked) (format : Format) (w out : List ℕ) (size : length w ≡ window_bits (numbers_of format)) where
-  pub never_5 : tests.ends (numbers_of format) w ≡ true → read_with tests asked w out ≡ outcome (Refused EndsDiffer) out → ⊥
+  pub never_5 : tests.ends (numbers_of format) w ≡ true → read_with tests asked w out ≡ outcome (Err EndsDiffer) out → ⊥
   never_5 e a =
       let f = only_5 tests asked w out a in
       fails (tests.ends (numbers_of format) w) (rw (format_of_lem format w size) at f) (holds (tests.ends (numbers_of format) w) e)
 
-  pub never_6 : tests.divided (numbers_of format) w ≡ true → read_with tests asked w out ≡ outcome (Refused NotDivisible) out → ⊥
+  pub never_6 : tests.divided (numbers_of format) w ≡ true → read_with tests asked w out ≡ outcome (Err NotDivisible) out → ⊥
   never_6 d a =
       let f = only_6 tests asked w out a in
       fails (tests.divided (numbers_of format) w) (rw (format_of_lem format w size) at f) (holds (tests.divided (numbers_of format) w) d)
 
   pub neither : tests.ends (numbers_of format) w ≡ true → tests.divided (numbers_of format) w ≡ true
-      → (read_with tests asked w out ≡ outcome (Refused EndsDiffer) out → ⊥) × (read_with tests asked w out ≡ outcome (Refused NotDivisible) out → ⊥)
+      → (read_with tests asked w out ≡ outcome (Err EndsDiffer) out → ⊥) × (read_with tests asked w out ≡ outcome (Err NotDivisible) out → ⊥)
   neither e d = (never_5 e, never_6 d)

@@ -18,13 +18,13 @@ use Rattle.cyclic.proofs.Lists.{Bits, zeros, length-zeros, length-sum}
 use Rattle.cyclic.proofs.Registers.{zeros_right}
 use Rattle.cyclic.proofs.Formats.{facts_of}
 use Rattle.reader.specs.declared.Asked.{Asked}
-use Rattle.reader.specs.declared.ReadAnswer.TheVariants.{Refused}
 use Rattle.reader.proofs.Ends.{ends_agree_lem}
 use Rattle.damage.specs.Readers.{read_with, the_tests}
 use Rattle.damage.proofs.Sums.{sum-take, sum_drop}
 use Rattle.damage.proofs.Divided.{divided_sum}
 use Rattle.damage.proofs.Windows.{is_divided, Whole}
 use Rattle.damage.proofs.Readers.{neither}
+use Rattle.std.specs.Prelude.{Err}
 
 -- n bits that g divides, the first r of them 0
 pub record Unseen (F : Numbers) (e : List ℕ) : Type 0 where
@@ -75,8 +75,8 @@ module _ (format : Format) (e : List ℕ) (u : Unseen (numbers_of format) e) (w 
 
   -- so a reader with the tests of the window calls refuses neither with 5 nor with 6
   pub unseen : (asked : Asked) (out : List ℕ)
-      → (read_with the_tests asked (added F e w) out ≡ outcome (Refused EndsDiffer) out → ⊥)
-      × (read_with the_tests asked (added F e w) out ≡ outcome (Refused NotDivisible) out → ⊥)
+      → (read_with the_tests asked (added F e w) out ≡ outcome (Err EndsDiffer) out → ⊥)
+      × (read_with the_tests asked (added F e w) out ≡ outcome (Err NotDivisible) out → ⊥)
   unseen asked out =
       let v = added F e w in
       neither the_tests asked format v out (added_size ∙ whole.size) (ends_agree_lem F v (last_kept ∙ whole.ends ∙ sym first-kept))

@@ -14,7 +14,6 @@ use Rattle.bits.proofs.Tests.{holds}
 use Rattle.formats.specs.declared.format.Format.{Format}
 use Rattle.formats.specs.declared.format.Format.TheVariants.{Short}
 use Rattle.formats.specs.Numbers.{Numbers, long, short, numbers_of, window_bits, g_of, fg_of}
-use Rattle.cyclic.specs.declared.Turn.TheVariants.{Nothing}
 use Rattle.cyclic.specs.Check.{g_padded, divisible}
 use Rattle.cyclic.specs.Remainder.{remainder}
 use Rattle.cyclic.proofs.Laws.{zeros}
@@ -28,6 +27,7 @@ use Rattle.reader.proofs.Ends.{ends_repeat}
 use Rattle.reader.proofs.Windows.{length-oriented, bits_oriented, cut-oriented}
 use Rattle.reader.proofs.CutReads.{formed_code, cut-found}
 use Rattle.demands.proofs.LongFromShort.{rounds_agree, rounds_divisible, rounds_no_turn}
+use Rattle.std.specs.Prelude.{None}
 
 -- ---- the test that g divides
 
@@ -105,7 +105,7 @@ module _ (asked : Asked) (b : List ℕ) (h : T (is_asked asked Short b)) (t : �
       })
 
   -- whose remainder by the long f is that of no turn
-  pub rounds_turn : turn_found long (cut (window_bits long) t flipped b) ≡ Nothing
+  pub rounds_turn : turn_found long (cut (window_bits long) t flipped b) ≡ None
   rounds_turn =
       let ring = ring_of asked b h t flipped in
       ap (turn_found long) ring.window ∙ rounds_no_turn (oriented flipped b) t ring.bits ring.size below ring.code

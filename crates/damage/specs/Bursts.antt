@@ -1,17 +1,17 @@
 -- One burst, and what a window call answers to it (document 02, No. 8). The quotations are from there.
 -- Assumes nothing.
-use Rattle.std.specs.Prelude.{ℕ, suc, ◌+◌, ◌≤◌, ◌<◌, Bool, List, ◌⊎◌, ◌≡◌, T, length, get_or}
+use Rattle.std.specs.Prelude.{ℕ, suc, ◌+◌, ◌≤◌, ◌<◌, Bool, List, ◌⊎◌, ◌≡◌, T, length, get_or, Result, Err}
 use Rattle.bits.specs.Bits.{all_bits}
 use Rattle.formats.specs.declared.format.Format.{Format}
 use Rattle.formats.specs.Numbers.{Numbers, numbers_of, window_bits}
 use Rattle.refusals.specs.declared.Refusal.TheVariants.{EndsDiffer, NotDivisible}
 use Rattle.refusals.specs.Outcome.{Outcome, outcome}
 use Rattle.reader.specs.declared.Asked.{Asked}
-use Rattle.reader.specs.declared.ReadAnswer.{ReadAnswer}
-use Rattle.reader.specs.declared.ReadAnswer.TheVariants.{Refused}
 use Rattle.reader.specs.Windows.{cut}
 use Rattle.reader.specs.CutFrom.{is_asked}
 use Rattle.reader.specs.Reads.{read_of, read_well_formed_of}
+use Rattle.reader.specs.declared.Reading.{Reading}
+use Rattle.refusals.specs.declared.Refusal.{Refusal}
 
 -- ---- what a burst is
 
@@ -40,17 +40,17 @@ abbrev pub AtEnds : Numbers → ℕ → Type 0
 AtEnds F j = (j < F.r) ⊎ (F.n ≤ j)
 
 -- the answer to v, which is the format's window w with a burst; refusals 5 and 6 are `EndsDiffer` and `NotDivisible`
-pub record BurstRefused (format : Format) (w v out : List ℕ) (answered : Outcome ReadAnswer) : Type 0 where
+pub record BurstRefused (format : Format) (w v out : List ℕ) (answered : Outcome (Result Reading Refusal)) : Type 0 where
   -- "The reader, lent room, must refuse, with 5 or 6"; every byte of the output is kept
-  pub refused : (answered ≡ outcome (Refused EndsDiffer) out) ⊎ (answered ≡ outcome (Refused NotDivisible) out)
+  pub refused : (answered ≡ outcome (Err EndsDiffer) out) ⊎ (answered ≡ outcome (Err NotDivisible) out)
   -- with 5 where a changed bit is at the ends
-  pub with_ends : (j : ℕ) → Changed w v j → AtEnds (numbers_of format) j → answered ≡ outcome (Refused EndsDiffer) out
+  pub with_ends : (j : ℕ) → Changed w v j → AtEnds (numbers_of format) j → answered ≡ outcome (Err EndsDiffer) out
   -- with 6 where none is
-  pub without_ends : ((j : ℕ) → Changed w v j → AtEnds (numbers_of format) j → ⊥) → answered ≡ outcome (Refused NotDivisible) out
+  pub without_ends : ((j : ℕ) → Changed w v j → AtEnds (numbers_of format) j → ⊥) → answered ≡ outcome (Err NotDivisible) out
 
 -- what is asked of a window call: "a window of the set length from a proper telegram", or from a well-formed one, "upright or flipped, at any
 -- turn", with a burst of at most 75 bits, and room for the user bits
-pub record RefusesBursts (read : List ℕ → List ℕ → Outcome ReadAnswer) : Type 0 where
+pub record RefusesBursts (read : List ℕ → List ℕ → Outcome (Result Reading Refusal)) : Type 0 where
   pub refuses : (asked : Asked) (format : Format) (b : List ℕ) → T (is_asked asked format b)
       → (t : ℕ) → t < (numbers_of format).n → (flipped : Bool)
       → (v : List ℕ) → Burst burst_limit (cut (window_bits (numbers_of format)) t flipped b) v
@@ -65,11 +65,11 @@ pub record OneBurst : Type 0 where
 -- ---- no more can be asked
 
 -- each such window has a burst of one bit more that is refused neither with 5 nor with 6, whatever is lent
-pub record MissesBursts (read : List ℕ → List ℕ → Outcome ReadAnswer) : Type 0 where
+pub record MissesBursts (read : List ℕ → List ℕ → Outcome (Result Reading Refusal)) : Type 0 where
   pub misses : (asked : Asked) (format : Format) (b : List ℕ) → T (is_asked asked format b)
       → (t : ℕ) → t < (numbers_of format).n → (flipped : Bool)
       → (v : List ℕ) × Burst (suc burst_limit) (cut (window_bits (numbers_of format)) t flipped b) v
-      × ((out : List ℕ) → (read v out ≡ outcome (Refused EndsDiffer) out → ⊥) × (read v out ≡ outcome (Refused NotDivisible) out → ⊥))
+      × ((out : List ℕ) → (read v out ≡ outcome (Err EndsDiffer) out → ⊥) × (read v out ≡ outcome (Err NotDivisible) out → ⊥))
 
 pub record LongerBurst : Type 0 where
   pub by_read : MissesBursts read_of

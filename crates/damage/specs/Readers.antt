@@ -1,7 +1,7 @@
 -- Readers that test a window as read and read_well_formed do, but for refusals 5 and 6, whose tests may be others (document 01, "When the
 -- bench says no"): to say which wrong readers are ruled out where bursts are refused.
 -- Assumes nothing.
-use Rattle.std.specs.Prelude.{ℕ, ◌-◌, Bool, true, not, List, ◌∷◌, ◌++◌, length, take, drop}
+use Rattle.std.specs.Prelude.{ℕ, ◌-◌, Bool, true, not, List, ◌∷◌, ◌++◌, length, take, drop, Result, Err}
 use Rattle.formats.specs.declared.format.Format.{Format}
 use Rattle.formats.specs.Numbers.{Numbers, numbers_of}
 use Rattle.refusals.specs.declared.Refusal.{Refusal}
@@ -10,10 +10,9 @@ use Rattle.refusals.specs.Table.{Row, ◌when◌, verdict, outcome_by}
 use Rattle.refusals.specs.Outcome.{Outcome}
 use Rattle.cyclic.specs.Check.{divisible}
 use Rattle.reader.specs.declared.Asked.{Asked}
-use Rattle.reader.specs.declared.ReadAnswer.{ReadAnswer}
-use Rattle.reader.specs.declared.ReadAnswer.TheVariants.{Refused}
 use Rattle.reader.specs.Reads.{format_of, ends_agree, read_table, read_out}
 use Rattle.damage.specs.Bursts.{RefusesBursts}
+use Rattle.reader.specs.declared.Reading.{Reading}
 
 -- how a reader tests that the ends of a window agree, and that g divides
 pub record Tests : Type 0 where
@@ -28,10 +27,10 @@ table_with tests asked format room w =
     take 3 rows ++ (EndsDiffer when not (tests.ends F w) ∷ NotDivisible when not (tests.divided F w) ∷ drop 5 rows)
 
 -- what such a reader answers, and what the output holds
-unfoldable pub read_with : Tests → Asked → List ℕ → List ℕ → Outcome ReadAnswer
+unfoldable pub read_with : Tests → Asked → List ℕ → List ℕ → Outcome (Result Reading Refusal)
 read_with tests asked w out =
     let format = format_of w in
-    outcome_by Refused out (read_out format w out) (verdict (table_with tests asked format (length out) w))
+    outcome_by Err out (read_out format w out) (verdict (table_with tests asked format (length out) w))
 
 -- ---- the tests of read and read_well_formed: `read_with the_tests` is `read_by`
 abbrev pub the_tests : Tests

@@ -1,7 +1,7 @@
 -- A recorder that slips: bits lost at one place of a window, or put in there, and what a window call answers. Refusal 5 (document 01) is
 -- `EndsDiffer`.
 -- Assumes nothing.
-use Rattle.std.specs.Prelude.{ℕ, suc, ◌+◌, ◌-◌, ◌≤◌, ◌<◌, Bool, false, List, [], ◌∷◌, ◌++◌, ◌⊎◌, ◌≡◌, T, length, take, drop}
+use Rattle.std.specs.Prelude.{ℕ, suc, ◌+◌, ◌-◌, ◌≤◌, ◌<◌, Bool, false, List, [], ◌∷◌, ◌++◌, ◌⊎◌, ◌≡◌, T, length, take, drop, Result, Err}
 use Rattle.bits.specs.Bits.{all_bits}
 use Rattle.formats.specs.declared.format.Format.{Format}
 use Rattle.formats.specs.Numbers.{numbers_of, window_bits}
@@ -9,12 +9,12 @@ use Rattle.refusals.specs.declared.Refusal.TheVariants.{EndsDiffer}
 use Rattle.refusals.specs.Outcome.{Outcome, outcome}
 use Rattle.telegrams.specs.Fields.{well_formed}
 use Rattle.reader.specs.declared.Asked.{Asked}
-use Rattle.reader.specs.declared.ReadAnswer.{ReadAnswer}
-use Rattle.reader.specs.declared.ReadAnswer.TheVariants.{Refused}
 use Rattle.reader.specs.Windows.{cut}
 use Rattle.reader.specs.CutFrom.{is_asked}
 use Rattle.reader.specs.Reads.{read_of, read_well_formed_of}
 use Rattle.damage.specs.Answers.{RefusedWith}
+use Rattle.reader.specs.declared.Reading.{Reading}
+use Rattle.refusals.specs.declared.Refusal.{Refusal}
 
 -- ---- what a slip is
 
@@ -59,12 +59,12 @@ Slip reach size s t flipped b v = Lost reach size s (cut (size + s) t flipped b)
 -- ---- what is answered
 
 -- refused with 5
-abbrev pub SlipRefused : Format → List ℕ → Outcome ReadAnswer → Type 0
+abbrev pub SlipRefused : Format → List ℕ → Outcome (Result Reading Refusal) → Type 0
 SlipRefused format out answered = RefusedWith (EndsDiffer ∷ []) format out answered
 
 -- what is asked of a window call: a window of the set length from a well-formed telegram, or a proper one, upright or flipped, at any turn,
 -- with 1 to `limit` bits lost at one place, or put in
-pub record RefusesSlips (limit reach : ℕ) (read : List ℕ → List ℕ → Outcome ReadAnswer) : Type 0 where
+pub record RefusesSlips (limit reach : ℕ) (read : List ℕ → List ℕ → Outcome (Result Reading Refusal)) : Type 0 where
   pub refuses : (asked : Asked) (format : Format) (b : List ℕ) → T (is_asked asked format b)
       → (t : ℕ) → t < (numbers_of format).n → (flipped : Bool)
       → (s : ℕ) → 1 ≤ s → s ≤ limit
@@ -87,7 +87,7 @@ pub record Undamaged (format : Format) (b : List ℕ) (flipped : Bool) (v : List
   pub window : v ≡ cut (window_bits (numbers_of format)) turn flipped b
 
 -- 1 to `limit` bits lost at one place, or put in, wherever that is (the slipped bits alone are the reach): refused with 5, or without damage
-pub record SettlesSlips (limit : ℕ) (read : List ℕ → List ℕ → Outcome ReadAnswer) : Type 0 where
+pub record SettlesSlips (limit : ℕ) (read : List ℕ → List ℕ → Outcome (Result Reading Refusal)) : Type 0 where
   pub settles : (asked : Asked) (format : Format) (b : List ℕ) → T (is_asked asked format b)
       → (t : ℕ) → t < (numbers_of format).n → (flipped : Bool)
       → (s : ℕ) → 1 ≤ s → s ≤ limit
@@ -102,7 +102,7 @@ pub record SlipsAnywhere : Type 0 where
 -- ---- no more can be asked
 
 -- a window of a well-formed telegram with s bits lost, so far from either edge, that is not refused with 5, whatever is lent
-pub record MissesLost (read : List ℕ → List ℕ → Outcome ReadAnswer) (reach s : ℕ) : Type 0 where
+pub record MissesLost (read : List ℕ → List ℕ → Outcome (Result Reading Refusal)) (reach s : ℕ) : Type 0 where
   pub format : Format
   pub telegram : List ℕ
   pub formed : T (well_formed (numbers_of format) telegram)
@@ -110,10 +110,10 @@ pub record MissesLost (read : List ℕ → List ℕ → Outcome ReadAnswer) (rea
   pub below : turn < (numbers_of format).n
   pub v : List ℕ
   pub lost : Lost reach (window_bits (numbers_of format)) s (cut (window_bits (numbers_of format) + s) turn false telegram) v
-  pub missed : (out : List ℕ) → read v out ≡ outcome (Refused EndsDiffer) out → ⊥
+  pub missed : (out : List ℕ) → read v out ≡ outcome (Err EndsDiffer) out → ⊥
 
 -- with one bit more, or one bit nearer to an edge; with one bit more, far from both
-pub record MissesSlips (read : List ℕ → List ℕ → Outcome ReadAnswer) : Type 0 where
+pub record MissesSlips (read : List ℕ → List ℕ → Outcome (Result Reading Refusal)) : Type 0 where
   pub longer : MissesLost read slip_reach (suc slip_limit)
   pub nearer : MissesLost read (slip_reach - 1) slip_limit
   pub far_longer : MissesLost read far_slip_reach (suc far_slip_limit)

@@ -10,22 +10,21 @@ use Rattle.words.specs.declared.BadWord.{BadWord}
 use Rattle.refusals.specs.declared.Refusal.TheVariants.{NotWord}
 use Rattle.refusals.specs.Outcome.{outcome}
 use Rattle.telegrams.specs.Worded.{IsFirstBad, ControlAndCheck}
-use Rattle.checker.specs.declared.Checked.TheVariants.{Refused as NotProper}
 use Rattle.checker.specs.Checking.{format_of, check_of}
 use Rattle.checker.proofs.Steps.{format_is}
 use Rattle.checker.proofs.Exact.{checks}
 use Rattle.reader.specs.declared.Asked.{Asked}
-use Rattle.reader.specs.declared.ReadAnswer.TheVariants.{Refused as NotRead}
 use Rattle.reader.specs.Windows.{cut}
 use Rattle.reader.specs.Reads.{read_by}
 use Rattle.reader.specs.ReadsExactly.{LentWindow}
 use Rattle.reader.proofs.CutReads.{cut-found}
 use Rattle.reader.proofs.NamesBadWord.{names_bad_word}
 use Rattle.demands.specs.BadWords.{OfRefused, NamesAlike}
+use Rattle.std.specs.Prelude.{Err}
 
-windows : (b : List ℕ) (bad : BadWord) → check_of b ≡ NotProper (NotWord bad)
+windows : (b : List ℕ) (bad : BadWord) → check_of b ≡ Err (NotWord bad)
     → (asked : Asked) (t : ℕ) → t < (numbers_of (format_of b)).n → (flipped : Bool) (out : List ℕ) → (numbers_of (format_of b)).m ≤ length out
-    → read_by asked (cut (window_bits (numbers_of (format_of b))) t flipped b) out ≡ outcome (NotRead (NotWord bad)) out
+    → read_by asked (cut (window_bits (numbers_of (format_of b))) t flipped b) out ≡ outcome (Err (NotWord bad)) out
 windows b bad e asked t below flipped out room =
     let format = format_of b in
     let w = cut (window_bits (numbers_of format)) t flipped b in
@@ -35,7 +34,7 @@ windows b bad e asked t below flipped out room =
     (record { telegram = b; but_words = but_words; first = first; t = t; flipped = flipped; turn = below; window = refl })
 
 telegram : (asked : Asked) (format : Format) (w out : List ℕ) → LentWindow format w out
-    → (bad : BadWord) → read_by asked w out ≡ outcome (NotRead (NotWord bad)) out → OfRefused format w bad
+    → (bad : BadWord) → read_by asked w out ≡ outcome (Err (NotWord bad)) out → OfRefused format w bad
 telegram asked format w out lent bad e =
     let c = ((names_bad_word asked format w out lent).names bad).0 e in
     let b = c.telegram in

@@ -13,7 +13,6 @@ use Rattle.bits.proofs.Ring.{length-around, all_bits-around, around-append, take
 use Rattle.formats.specs.declared.format.Format.{Format}
 use Rattle.formats.specs.declared.format.Format.TheVariants.{Long}
 use Rattle.formats.specs.Numbers.{long, short, numbers_of, f_of, g_of, fg_of}
-use Rattle.cyclic.specs.declared.Turn.TheVariants.{Nothing}
 use Rattle.cyclic.specs.Remainder.{remainder}
 use Rattle.cyclic.specs.Check.{g_padded, turned, divisible}
 use Rattle.cyclic.proofs.Formats.{facts_of}
@@ -21,10 +20,11 @@ use Rattle.cyclic.proofs.Laws.{short_facts, zeros, turned_reads, turn-never, thr
 use Rattle.reader.specs.Reads.{ends_agree, turn_found}
 use Rattle.reader.proofs.Ends.{ends_agree_lem}
 use Rattle.reader.proofs.Turns.{turn-none}
+use Rattle.std.specs.Prelude.{None}
 
 -- a window whose first n bits have the remainder 0 by f has no turn
 pub zero_no_turn : (format : Format) (w : List ℕ) → remainder (f_of (numbers_of format)) (take (numbers_of format).n w) ≡ zeros 10
-    → turn_found (numbers_of format) w ≡ Nothing
+    → turn_found (numbers_of format) w ≡ None
 zero_no_turn format w e =
     let F = numbers_of format in
     turn-none F w (λ t below f. turn-never F (facts_of format) t below (f ∙ e))
@@ -62,7 +62,7 @@ module _ (x : List ℕ) (t : ℕ) (bits : T (all_bits x)) (size : length x ≡ 3
       (ap (remainder (g_of long)) three_rounds ∙ (thrice v (all_bits-around 341 t x bits) (length-around 341 t x) one_round).0)
 
   -- and their remainder by the long f is that of no turn
-  pub rounds_no_turn : turn_found long (around 1100 t x) ≡ Nothing
+  pub rounds_no_turn : turn_found long (around 1100 t x) ≡ None
   rounds_no_turn =
       let v = around 341 t x in
       zero_no_turn Long (around 1100 t x)

@@ -16,19 +16,14 @@ use Rattle.telegrams.specs.Fields.{well_formed}
 use Rattle.telegrams.proofs.Made.{length-user_bits, bits_user_bits}
 use Rattle.telegrams.proofs.WellFormed.{parts}
 use Rattle.conditions.proofs.Proper.{proper_parts}
-use Rattle.encoder.specs.declared.Encoded.TheVariants.{Pair}
-use Rattle.encoder.specs.Encoding.{encode_of}
+use Rattle.encoder.specs.Encoding.{encode_of, encoded_with}
 use Rattle.encoder.proofs.Accepted.{encode_accepted, accepted_front}
-use Rattle.maker.specs.declared.Made.{Made}
-use Rattle.maker.specs.declared.Made.TheVariants.{Telegram}
 use Rattle.maker.specs.Making.{wrote, make_of}
 use Rattle.maker.specs.Makes.{InOrder, Carries}
 use Rattle.maker.proofs.Exact.{made, makes, makes_exactly}
 use Rattle.reader.specs.declared.Asked.{Asked}
 use Rattle.reader.specs.declared.Asked.TheVariants.{WellFormed, Proper}
 use Rattle.reader.specs.declared.Reading.{Reading}
-use Rattle.reader.specs.declared.ReadAnswer.{ReadAnswer}
-use Rattle.reader.specs.declared.ReadAnswer.TheVariants.{Read}
 use Rattle.reader.specs.Windows.{cut}
 use Rattle.reader.specs.Reads.{user_bits_in, read_by, read_well_formed_of}
 use Rattle.reader.specs.CutFrom.{CutFrom}
@@ -38,20 +33,21 @@ use Rattle.reader.proofs.AsAsked.{asked_tested}
 use Rattle.reader.proofs.Laws.{read_accepted}
 use Rattle.reader.proofs.ReadsCut.{reads_cut}
 use Rattle.reader.proofs.Exact.{cut_read}
-use Rattle.captures.specs.declared.Capture.{Capture}
-use Rattle.captures.specs.declared.Capture.TheVariants.{Found}
-use Rattle.captures.specs.Captures.{stretch_of, search_read_of}
+use Rattle.captures.specs.Captures.{stretch_of, search_read_of, found_with}
 use Rattle.captures.proofs.Exact.{searches, search_reads}
 use Rattle.demands.specs.MadeAgain.{MadeAgain, MakesAgain}
+use Rattle.std.specs.Prelude.{Result, Ok}
+use Rattle.captures.specs.declared.Found.{Found}
+use Rattle.refusals.specs.declared.Refusal.{Refusal}
 
 -- ---- a telegram that make wrote over the front of lent
 
 -- it stands there
-wrote-front : (format : Format) (b lent : List ℕ) (x : Outcome Made) → length b ≡ (numbers_of format).n → x ≡ wrote format b lent
+wrote-front : (format : Format) (b lent : List ℕ) (x : Outcome (Result Format Refusal)) → length b ≡ (numbers_of format).n → x ≡ wrote format b lent
     → take (numbers_of format).n x.output ≡ b
 wrote-front format b lent x size e =
     let n = (numbers_of format).n in
-    ap (λ (y : Outcome Made). take n y.output) e ∙ take_at b (drop n lent) n size
+    ap (λ (y : Outcome (Result Format Refusal)). take n y.output) e ∙ take_at b (drop n lent) n size
 
 -- ---- a window that is cut from a telegram
 
@@ -91,39 +87,39 @@ module _ (asked : Asked) (format : Format) (w : List ℕ) (B esb t : ℕ) (flipp
 
 -- ---- what was read
 
-window_again : (asked : Asked) (w out : List ℕ) (reading : Reading) (o : List ℕ) → read_by asked w out ≡ outcome (Read reading) o
+window_again : (asked : Asked) (w out : List ℕ) (reading : Reading) (o : List ℕ) → read_by asked w out ≡ outcome (Ok reading) o
     → (lent : List ℕ) → (numbers_of reading.format).n ≤ length lent → MadeAgain reading o lent w
 unfolding user_bits_in
 window_again asked w out reading o e lent room =
     let format = reading.format in
     let F = numbers_of format in
-    let a = read_accepted asked w out reading (ap (λ (x : Outcome ReadAnswer). x.answer) e) in
+    let a = read_accepted asked w out reading (ap (λ (x : Outcome (Result Reading Refusal)). x.answer) e) in
     let u = user_bits_in format w in
     let c =
     subst (λ (r : Reading). CutFrom asked format w r.scrambling r.shaping r.turn r.flipped u) (sym a.reads)
     (reads_cut asked format w a.accepted) in
     let front : take F.m o ≡ u =
-    ap (λ (x : Outcome ReadAnswer). take F.m x.output) (sym e) ∙ ap (take F.m) a.writes
+    ap (λ (x : Outcome (Result Reading Refusal)). take F.m x.output) (sym e) ∙ ap (take F.m) a.writes
     ∙ take_at u (drop F.m out) F.m (length-user_bits F (sizes_of format) _) in
     let B = reading.scrambling in
     let esb = reading.shaping in
     record {
       answers =
           ap (λ (l : List ℕ). (make_of l B esb lent).answer) front
-          ∙ ap (λ (x : Outcome Made). x.answer) (cut_made asked format w B esb reading.turn reading.flipped u c a.scrambling a.shaping lent room);
+          ∙ ap (λ (x : Outcome (Result Format Refusal)). x.answer) (cut_made asked format w B esb reading.turn reading.flipped u c a.scrambling a.shaping lent room);
       bits =
           ap (λ (l : List ℕ). cut F.n reading.turn reading.flipped (take F.n (make_of l B esb lent).output)) front
           ∙ cut_again asked format w B esb reading.turn reading.flipped u c a.scrambling a.shaping lent room;
     }
 
-capture_again : (s out : List ℕ) (p : ℕ) (reading : Reading) (o : List ℕ) → search_read_of s out ≡ outcome (Found p reading) o
+capture_again : (s out : List ℕ) (p : ℕ) (reading : Reading) (o : List ℕ) → search_read_of s out ≡ outcome (Ok (found_with p reading)) o
     → (lent : List ℕ) → (numbers_of reading.format).n ≤ length lent → MadeAgain reading o lent (drop p s)
 capture_again s out p reading o e lent room =
     let F = numbers_of reading.format in
-    let (found, reads) = (search_reads s out).reads p reading (ap (λ (x : Outcome Capture). x.answer) e) in
+    let (found, reads) = (search_reads s out).reads p reading (ap (λ (x : Outcome (Result Found Refusal)). x.answer) e) in
     let again =
     window_again Proper (stretch_of s) out reading o
-    (reads ∙ ap (λ (x : Outcome Capture). outcome (Read reading) x.output) e) lent room in
+    (reads ∙ ap (λ (x : Outcome (Result Found Refusal)). outcome (Ok reading) x.output) e) lent room in
     record {
       answers = again.answers;
       bits =
@@ -133,7 +129,7 @@ capture_again s out p reading o e lent room =
 
 -- ---- what was encoded
 
-encoded_again : (u out : List ℕ) (format : Format) (B esb tried : ℕ) → (encode_of u out).answer ≡ Pair format B esb tried
+encoded_again : (u out : List ℕ) (format : Format) (B esb tried : ℕ) → (encode_of u out).answer ≡ Ok (encoded_with format B esb tried)
     → (lent : List ℕ) → (numbers_of format).n ≤ length lent
     → make_of u B esb lent ≡ wrote format (take (numbers_of format).n (encode_of u out).output) lent
 encoded_again u out format B esb tried e lent room =
@@ -153,7 +149,7 @@ encoded_again u out format B esb tried e lent room =
 
 -- ---- what was made
 
-reads_back_lem : (u : List ℕ) (B esb : ℕ) (lent : List ℕ) (format : Format) → (make_of u B esb lent).answer ≡ Telegram format
+reads_back_lem : (u : List ℕ) (B esb : ℕ) (lent : List ℕ) (format : Format) → (make_of u B esb lent).answer ≡ Ok format
     → (t : ℕ) → t < (numbers_of format).n → (flipped : Bool) (out : List ℕ) → (numbers_of format).m ≤ length out
     → let b = take (numbers_of format).n (make_of u B esb lent).output in
     read_well_formed_of (cut (window_bits (numbers_of format)) t flipped b) out ≡ gave_block format B esb t flipped u out

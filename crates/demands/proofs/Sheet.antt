@@ -22,13 +22,13 @@ use Rattle.scrambling.specs.Sum.{with_sum, without_sum}
 use Rattle.cyclic.specs.Remainder.{step, remainder_from, remainder}
 use Rattle.cyclic.specs.Check.{divisible}
 use Rattle.cyclic.proofs.Laws.{zeros}
-use Rattle.reader.specs.declared.ReadAnswer.{ReadAnswer}
-use Rattle.reader.specs.declared.ReadAnswer.TheVariants.{Refused}
 use Rattle.reader.specs.declared.Asked.TheVariants.{Proper}
 use Rattle.reader.specs.Reads.{read_values, ends_agree, read_of}
 use Rattle.reader.proofs.Steps.{any_window, read_as_lem, ends_refused, turn_refused, length_refused}
 use Rattle.demands.specs.BenchSheet.{refused_read, answers, sheet}
 use Rattle.demands.proofs.LongFromShort.{zero_no_turn}
+use Rattle.std.specs.Prelude.{Result, Err}
+use Rattle.reader.specs.declared.Reading.{Reading}
 
 -- W10: 462 zeros pass the tests before the turn, and leave the remainder 0 by f
 zeros_bits : all_bits (replicate 462 0) ≡ true
@@ -47,16 +47,16 @@ zeros_rest : remainder (f_of short) (replicate 341 0) ≡ zeros 10
 unfolding remainder remainder_from step sum f_of polynomial coefficients_below coefficient_of
 zeros_rest = refl
 
-zeros_read : read_of (replicate 462 0) (replicate 210 0) ≡ outcome (Refused NoTurn) (replicate 210 0)
+zeros_read : read_of (replicate 462 0) (replicate 210 0) ≡ outcome (Err NoTurn) (replicate 210 0)
 zeros_read =
     read_as_lem Proper Short (replicate 462 0) (replicate 210 0) refl
     ∙ turn_refused Proper Short (replicate 462 0) (replicate 210 0) refl zeros_bits (lit≤ tt) zeros_ends zeros-divisible
     (zero_no_turn Short (replicate 462 0) zeros_rest)
 
 -- the number that a reading of w answers
-read_number : (w : List ℕ) (r : Refusal) → read_of w (replicate 210 0) ≡ outcome (Refused r) (replicate 210 0) → refused_read w ≡ refusal_number r
+read_number : (w : List ℕ) (r : Refusal) → read_of w (replicate 210 0) ≡ outcome (Err r) (replicate 210 0) → refused_read w ≡ refusal_number r
 unfolding refused_read
-read_number w r e = ap (λ (o : Outcome ReadAnswer). get_or (read_values o.answer) 0 0) e
+read_number w r e = ap (λ (o : Outcome (Result Reading Refusal)). get_or (read_values o.answer) 0 0) e
 
 no_turn : refused_read (replicate 462 0) ≡ 7
 no_turn = read_number (replicate 462 0) NoTurn zeros_read

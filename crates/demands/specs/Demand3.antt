@@ -1,7 +1,7 @@
 -- Demand 3, as document 01 has it under "Demand 3's windows", about encoding and reading themselves (`encode_of`, `read_of`): what encode
 -- writes, and the four points on its windows, each for every turn, upright and flipped.
 -- Assumes nothing.
-use Rattle.std.specs.Prelude.{ℕ, ◌+◌, ◌*◌, ◌≤◌, ◌<◌, Bool, List, ◌≡◌, T, length, take}
+use Rattle.std.specs.Prelude.{ℕ, ◌+◌, ◌*◌, ◌≤◌, ◌<◌, Bool, List, ◌≡◌, T, length, take, Result, Ok, Err}
 use Rattle.bits.specs.Bits.{all_bits}
 use Rattle.bits.specs.Differences.{differences}
 use Rattle.formats.specs.declared.format.Format.{Format}
@@ -10,15 +10,13 @@ use Rattle.formats.specs.Numbers.{long, short, numbers_of, window_bits}
 use Rattle.refusals.specs.declared.Refusal.{Refusal}
 use Rattle.refusals.specs.declared.Refusal.TheVariants.{OutputShort, EndsDiffer, NoTurn}
 use Rattle.refusals.specs.Outcome.{Outcome, outcome}
-use Rattle.encoder.specs.declared.Encoded.TheVariants.{Pair}
-use Rattle.encoder.specs.Encoding.{encode_of}
+use Rattle.encoder.specs.Encoding.{encode_of, encoded_with}
 use Rattle.encoder.specs.FirstPair.{ProperPair, FirstProper}
 use Rattle.encoder.specs.Encodes.{wrote_pair}
-use Rattle.reader.specs.declared.ReadAnswer.{ReadAnswer}
-use Rattle.reader.specs.declared.ReadAnswer.TheVariants.{Refused as NotRead}
 use Rattle.reader.specs.Windows.{cut}
 use Rattle.reader.specs.Reads.{read_of}
 use Rattle.reader.specs.ReadsExactly.{gave_block}
+use Rattle.reader.specs.declared.Reading.{Reading}
 
 -- u is a user block of the format for which some pair gives a proper telegram
 pub record SomeProper (format : Format) (u : List ℕ) : Type 0 where
@@ -35,12 +33,12 @@ pub record Wrote (format : Format) (u : List ℕ) (B esb : ℕ) (b : List ℕ) :
   pub block : SomeProper format u
   pub lent : List ℕ
   pub room : (numbers_of format).n ≤ length lent
-  pub answered : (encode_of u lent).answer ≡ Pair format B esb (1024 * B + esb + 1)
+  pub answered : (encode_of u lent).answer ≡ Ok (encoded_with format B esb (1024 * B + esb + 1))
   pub wrote : b ≡ take (numbers_of format).n (encode_of u lent).output
 
 -- reading: refused, the output as it was
-abbrev pub refused_with : Refusal → List ℕ → Outcome ReadAnswer
-refused_with refusal out = outcome (NotRead refusal) out
+abbrev pub refused_with : Refusal → List ℕ → Outcome (Result Reading Refusal)
+refused_with refusal out = outcome (Err refusal) out
 
 -- the demand; refusals 3, 5 and 7 are `OutputShort`, `EndsDiffer` and `NoTurn`
 pub record Demand3 : Type 0 where

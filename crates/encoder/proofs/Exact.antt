@@ -16,21 +16,21 @@ use Rattle.refusals.proofs.Fronts.{front-written}
 use Rattle.cyclic.proofs.Formats.{facts_of}
 use Rattle.telegrams.specs.Telegram.{telegram_of}
 use Rattle.telegrams.proofs.Made.{length_made}
-use Rattle.encoder.specs.declared.Encoded.{Encoded}
-use Rattle.encoder.specs.declared.Encoded.TheVariants.{Pair, Refused}
-use Rattle.encoder.specs.Encoding.{format_of, encode_table, encode_of}
+use Rattle.encoder.specs.Encoding.{format_of, encode_table, encode_of, encoded_with}
 use Rattle.encoder.specs.Encodes.{CleanBlock, EncodeAnswers, EncodesFirst}
 use Rattle.encoder.proofs.Steps.{rises, kept}
 use Rattle.encoder.proofs.FirstOrNone.{first_or_none_lem, gives_first_lem, says_none_lem}
 use Rattle.encoder.proofs.Accepted.{said, tells, encode_accepted}
+use Rattle.std.specs.Prelude.{Result, Ok, Err}
+use Rattle.encoder.specs.declared.Encoded.{Encoded}
 
 -- only a refusal tells that it is one
-only : (a : Encoded) (r : Refusal) → said a ≡ refused r → a ≡ Refused r
-only (Refused q) r e = cc
-only (Pair format B esb tried) r e = clash cc
+only : (a : Result Encoded Refusal) (r : Refusal) → said a ≡ refused r → a ≡ Err r
+only (Err q) r e = cc
+only (Ok first) r e = clash cc
 
 -- a pair's telegram stands over the front of the output
-written-front : (u out : List ℕ) (format : Format) (B esb tried : ℕ) → (encode_of u out).answer ≡ Pair format B esb tried
+written-front : (u out : List ℕ) (format : Format) (B esb tried : ℕ) → (encode_of u out).answer ≡ Ok (encoded_with format B esb tried)
     → FrontWritten (numbers_of format).n out (encode_of u out).output
 written-front u out format B esb tried e =
     let F = numbers_of format in
@@ -41,9 +41,9 @@ pub encode_answers : (u out : List ℕ) → EncodeAnswers u out
 encode_answers u out =
     record {
       refuses =
-          refuses_by Refused said (λ r. refl) only refusal_number (encode_table (format_of u) (length out) u) (rises (format_of u) (length out) u)
+          refuses_by Err said (λ r. refl) only refusal_number (encode_table (format_of u) (length out) u) (rises (format_of u) (length out) u)
           (encode_of u out).answer (tells u out);
-      keeps = λ r e. ap (λ (y : Outcome Encoded). y.output) (kept u out r (sym (tells u out) ∙ ap said e));
+      keeps = λ r e. ap (λ (y : Outcome (Result Encoded Refusal)). y.output) (kept u out r (sym (tells u out) ∙ ap said e));
       writes = written-front u out;
     }
 

@@ -9,13 +9,14 @@ use Rattle.bits.specs.Search.{First, found, none}
 use Rattle.bits.proofs.Tests.{clash}
 use Rattle.formats.specs.declared.format.Format.{Format}
 use Rattle.refusals.specs.Outcome.{Outcome}
-use Rattle.encoder.specs.declared.Encoded.{Encoded}
-use Rattle.encoder.specs.declared.Encoded.TheVariants.{Pair}
-use Rattle.encoder.specs.Encoding.{first_pair, encode_of}
+use Rattle.encoder.specs.Encoding.{first_pair, encode_of, encoded_with}
 use Rattle.encoder.specs.FirstPair.{ProperPair, FirstProper, NoneProper}
 use Rattle.encoder.specs.Encodes.{CleanBlock, wrote_pair, found_none}
 use Rattle.encoder.proofs.ProperFrom.{found_from, from_found, missing_from}
-use Rattle.encoder.proofs.Steps.{none_refused, pair_given}
+use Rattle.encoder.proofs.Steps.{none_refused, pair_given, same_encoded}
+use Rattle.std.specs.Prelude.{Result, Ok}
+use Rattle.encoder.specs.declared.Encoded.{Encoded}
+use Rattle.refusals.specs.declared.Refusal.{Refusal}
 
 -- ---- the first pair
 
@@ -82,25 +83,24 @@ module _ (format : Format) (u out : List ℕ) (clean : CleanBlock format u out) 
           inr (missing_proper format u e, none_refused format u out clean e)
 
   -- a pair that is answered is the first that is proper, with its count and its telegram
-  pub answered_first : (B esb tried : ℕ) → (encode_of u out).answer ≡ Pair format B esb tried
+  pub answered_first : (B esb tried : ℕ) → (encode_of u out).answer ≡ Ok (encoded_with format B esb tried)
       → FirstProper format u B esb × (tried ≡ 1024 * B + esb + 1) × (encode_of u out ≡ wrote_pair format u out B esb)
   answered_first B esb tried e = go first_or_none_lem
     where
       go : FirstOrNone format u out
           → FirstProper format u B esb × (tried ≡ 1024 * B + esb + 1) × (encode_of u out ≡ wrote_pair format u out B esb)
       go (inl (C, s, f, whole)) =
-          let answers = sym (ap (λ (y : Outcome Encoded). y.answer) whole) ∙ e in
-          let same_B : C ≡ B = cc in
-          let same-esb : s ≡ esb = cc in
-          (subst₂ (FirstProper format u) same_B same-esb f, cc, cc)
+          let answers = sym (ap (λ (y : Outcome (Result Encoded Refusal)). y.answer) whole) ∙ e in
+          let same = same_encoded format C s (1024 * C + s + 1) format B esb tried cc in
+          (subst₂ (FirstProper format u) same.1 same.2 f, cc, cc)
       go (inr (missing, whole)) =
-          let answers = sym (ap (λ (y : Outcome Encoded). y.answer) whole) ∙ e in
+          let answers = sym (ap (λ (y : Outcome (Result Encoded Refusal)). y.answer) whole) ∙ e in
           clash cc
 
   -- the answer is the pair B, esb exactly when it is the first proper pair
   pub gives_first_lem : (B esb : ℕ) → (encode_of u out ≡ wrote_pair format u out B esb) ↔ FirstProper format u B esb
   gives_first_lem B esb = (
-    λ e. (answered_first B esb (1024 * B + esb + 1) (ap (λ (y : Outcome Encoded). y.answer) e)).0,
+    λ e. (answered_first B esb (1024 * B + esb + 1) (ap (λ (y : Outcome (Result Encoded Refusal)). y.answer) e)).0,
     first_answered B esb,
   )
 
@@ -110,7 +110,7 @@ module _ (format : Format) (u out : List ℕ) (clean : CleanBlock format u out) 
     where
       go : FirstOrNone format u out → (encode_of u out ≡ found_none out) ↔ NoneProper format u
       go (inl (B, esb, f, whole)) = (
-        λ e. let answers = ap (λ (y : Outcome Encoded). y.answer) (sym whole ∙ e) in clash cc,
+        λ e. let answers = ap (λ (y : Outcome (Result Encoded Refusal)). y.answer) (sym whole ∙ e) in clash cc,
         λ missing. absurd (missing B esb f.scrambling f.shaping f.proper_pair),
       )
       go (inr (missing, whole)) = (λ e. missing, λ h. whole)

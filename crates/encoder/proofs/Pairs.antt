@@ -9,13 +9,14 @@ use Rattle.formats.specs.declared.format.Format.{Format}
 use Rattle.formats.specs.Numbers.{numbers_of}
 use Rattle.formats.proofs.Sizes.{sizes_of}
 use Rattle.cyclic.proofs.Formats.{facts_of}
-use Rattle.telegrams.specs.Telegram.{telegram_of}
+use Rattle.telegrams.specs.Telegram.{telegram_of, pair_with}
 use Rattle.telegrams.proofs.WellFormed.{made_well_formed}
 use Rattle.conditions.specs.Conditions.{proper}
-use Rattle.encoder.specs.declared.search.Search.TheVariants.{Pair, Nothing}
+use Rattle.telegrams.specs.declared.Pair.{Pair}
 use Rattle.encoder.specs.Encoding.{telegram_at, passes, written}
 use Rattle.encoder.specs.Encodes.{wrote_pair}
 use Rattle.encoder.specs.Searched.{made_proper, pair_of}
+use Rattle.std.specs.Prelude.{Some, None}
 
 module _ (B esb : ℕ) (below : esb < 1024) where
   pub pair_scrambling : (1024 * B + esb) / 1024 ≡ B
@@ -25,8 +26,8 @@ module _ (B esb : ℕ) (below : esb < 1024) where
   pair_shaping = omega arith
 
   -- as the search answers it
-  pub pair_searched : pair_of (found (1024 * B + esb)) ≡ Pair B esb
-  pair_searched = ap₂ Pair pair_scrambling pair_shaping
+  pub pair_searched : pair_of (found (1024 * B + esb)) ≡ Some (pair_with B esb)
+  pair_searched = ap₂ (λ C e. Some (pair_with C e)) pair_scrambling pair_shaping
 
   module _ (format : Format) (u : List ℕ) where
     pub pair_telegram : telegram_at format u (1024 * B + esb) ≡ telegram_of (numbers_of format) u B esb
@@ -43,16 +44,19 @@ module _ (B esb : ℕ) (below : esb < 1024) where
     unfolding written
     pair_written out = rw (pair_telegram, pair_scrambling, pair_shaping)
 
+-- equal pairs are of equal numbers
+pub same_pair : (B esb C e : ℕ) → pair_with B esb ≡ pair_with C e → (B ≡ C) × (esb ≡ e)
+same_pair B esb C e is = (ap (λ (pair : Pair). pair.scrambling) is, ap (λ (pair : Pair). pair.shaping) is)
+
 -- the pair that the search answers
-pub searched_pair : (first : First) (B esb : ℕ) → pair_of first ≡ Pair B esb → (esb < 1024) × (first ≡ found (1024 * B + esb))
+pub searched_pair : (first : First) (B esb : ℕ) → pair_of first ≡ Some (pair_with B esb) → (esb < 1024) × (first ≡ found (1024 * B + esb))
 searched_pair (found p) B esb e =
-    let same_B : p / 1024 ≡ B = cc in
-    let same-esb : p % 1024 ≡ esb = cc in
-    let place : p ≡ 1024 * B + esb = omega arith in
-    (omega arith, ap found place)
+    let same = same_pair (p / 1024) (p % 1024) B esb cc in
+    let place : p ≡ 1024 * B + esb = omega (arith, same) in
+    (omega (arith, same), ap found place)
 searched_pair none B esb e = clash cc
 
-pub searched_none : (first : First) → pair_of first ≡ Nothing → first ≡ none
+pub searched_none : (first : First) → pair_of first ≡ None → first ≡ none
 searched_none (found p) e = clash cc
 searched_none none e = refl
 

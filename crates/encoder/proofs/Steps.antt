@@ -19,18 +19,17 @@ use Rattle.refusals.specs.Table.{Verdict, refused, accepted, verdict, answer_by,
 use Rattle.refusals.specs.Outcome.{outcome}
 use Rattle.refusals.proofs.Table.{Decides, passed, failed, all_passed, NoRow, accepted_no_row, answer_by_lem}
 use Rattle.refusals.proofs.Outputs.{for_output}
-use Rattle.encoder.specs.declared.Encoded.{Encoded}
-use Rattle.encoder.specs.declared.Encoded.TheVariants.{Pair, Refused}
-use Rattle.encoder.specs.declared.Tested.{Tested}
-use Rattle.encoder.specs.Encoding.{format_of, first_pair, encode_table, written, encode_as, encode_of}
+use Rattle.encoder.specs.Encoding.{format_of, first_pair, encode_table, written, encode_as, encode_of, encoded_with}
 use Rattle.encoder.specs.Encodes.{CleanBlock, wrote_pair, found_none}
 use Rattle.encoder.specs.Tested.{TestedFor}
 use Rattle.encoder.proofs.Pairs.{pair_written}
+use Rattle.std.specs.Prelude.{Result, Ok, Err}
+use Rattle.encoder.specs.declared.Encoded.{Encoded}
 
 -- ---- the tests before the search
 
 -- what they tell of an output, by the case of their answer
-pub told : (u out : List ℕ) (answer case : Tested) → ((o : List ℕ) → length o ≡ length out → TestedFor u o answer) → answer ≡ case → TestedFor u out case
+pub told : (u out : List ℕ) (answer case : Result Format Refusal) → ((o : List ℕ) → length o ≡ length out → TestedFor u o answer) → answer ≡ case → TestedFor u out case
 told u = for_output (TestedFor u)
 
 -- ---- the rows
@@ -38,12 +37,12 @@ told u = for_output (TestedFor u)
 module _ (format : Format) (u out : List ℕ) where
   -- the format is that which the length picks
   decided : (v : Verdict Refusal) → format ≡ format_of u → Decides (encode_table format (length out) u) v
-      → encode_of u out ≡ outcome_by Refused out (written format u out (which_found (first_pair format u))) v
+      → encode_of u out ≡ outcome_by Err out (written format u out (which_found (first_pair format u))) v
   unfolding encode_of encode_as
   decided v e d = rw (← e, d.verdict_is)
 
   -- the length is not the format's
-  pub length_refused : format ≡ format_of u → (length u ≡ (numbers_of format).m → ⊥) → encode_of u out ≡ outcome (Refused Length) out
+  pub length_refused : format ≡ format_of u → (length u ≡ (numbers_of format).m → ⊥) → encode_of u out ≡ outcome (Err Length) out
   unfolding encode_table
   length_refused e h = decided (refused Length) e (failed (ne_eqb (length u) (numbers_of format).m h))
 
@@ -53,12 +52,12 @@ module _ (format : Format) (u out : List ℕ) where
     picked = sym (picks (λ (F : Numbers). F.m) blocks-apart format (length u) size)
 
     -- a byte other than 0 or 1
-    pub bits_refused : all_bits u ≡ false → encode_of u out ≡ outcome (Refused NotBit) out
+    pub bits_refused : all_bits u ≡ false → encode_of u out ≡ outcome (Err NotBit) out
     unfolding encode_table
     bits_refused e = decided (refused NotBit) picked (passed (eq-eqb (length u) (numbers_of format).m size) (failed e))
 
     -- the output is too short
-    pub room_refused : all_bits u ≡ true → length out < (numbers_of format).n → encode_of u out ≡ outcome (Refused OutputShort) out
+    pub room_refused : all_bits u ≡ true → length out < (numbers_of format).n → encode_of u out ≡ outcome (Err OutputShort) out
     unfolding encode_table
     room_refused e h =
         decided (refused OutputShort) picked
@@ -108,18 +107,28 @@ pub same-table : (format : Format) (u out out' : List ℕ) → (numbers_of forma
 unfolding encode_table
 same-table format u out out' h h' = rw (le-leb (numbers_of format).n (length out) h, le-leb (numbers_of format).n (length out') h')
 
+-- equal answers are of equal parts
+pub same_encoded : (f : Format) (B esb tried : ℕ) (g : Format) (C e count : ℕ)
+    → encoded_with f B esb tried ≡ encoded_with g C e count → (f ≡ g) × (B ≡ C) × (esb ≡ e) × (tried ≡ count)
+same_encoded f B esb tried g C e count is = (
+  ap (λ (x : Encoded). x.format) is,
+  ap (λ (x : Encoded). x.pair.scrambling) is,
+  ap (λ (x : Encoded). x.pair.shaping) is,
+  ap (λ (x : Encoded). x.tried) is,
+)
+
 -- the answer where no refusal applies
-abbrev pub first_answer : List ℕ → Encoded
-first_answer u = let p = which_found (first_pair (format_of u) u) in Pair (format_of u) (p / 1024) (p % 1024) (p + 1)
+abbrev pub first_answer : List ℕ → Result Encoded Refusal
+first_answer u = let p = which_found (first_pair (format_of u) u) in (Ok (encoded_with (format_of u) (p / 1024) (p % 1024) (p + 1)))
 
 module _ (u out : List ℕ) where
   -- the answer by the verdict
-  pub answered_by : (encode_of u out).answer ≡ answer_by Refused (first_answer u) (verdict (encode_table (format_of u) (length out) u))
+  pub answered_by : (encode_of u out).answer ≡ answer_by Err (first_answer u) (verdict (encode_table (format_of u) (length out) u))
   unfolding encode_of encode_as written
   answered_by =
-      answer_by_lem Refused out (written (format_of u) u out (which_found (first_pair (format_of u) u))) (verdict (encode_table (format_of u) (length out) u))
+      answer_by_lem Err out (written (format_of u) u out (which_found (first_pair (format_of u) u))) (verdict (encode_table (format_of u) (length out) u))
 
   -- a refusal keeps the output
-  pub kept : (r : Refusal) → verdict (encode_table (format_of u) (length out) u) ≡ refused r → encode_of u out ≡ outcome (Refused r) out
+  pub kept : (r : Refusal) → verdict (encode_table (format_of u) (length out) u) ≡ refused r → encode_of u out ≡ outcome (Err r) out
   unfolding encode_of encode_as
   kept r e = rw e

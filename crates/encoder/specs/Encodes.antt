@@ -1,6 +1,6 @@
 -- What encoding a block means (the request, demands 1 and 2; document 01, "When the bench says no").
 -- Assumes nothing.
-use Rattle.std.specs.Prelude.{ℕ, ◌+◌, ◌*◌, ◌≤◌, ◌≡◌, List, ◌++◌, ◌↔◌, ◌⊎◌, T, length, drop}
+use Rattle.std.specs.Prelude.{ℕ, ◌+◌, ◌*◌, ◌≤◌, ◌≡◌, List, ◌++◌, ◌↔◌, ◌⊎◌, T, length, drop, Result, Ok, Err}
 use Rattle.bits.specs.Bits.{all_bits}
 use Rattle.formats.specs.declared.format.Format.{Format}
 use Rattle.formats.specs.Numbers.{numbers_of}
@@ -10,10 +10,9 @@ use Rattle.refusals.specs.Refused.{refusal_number}
 use Rattle.refusals.specs.Table.{RefusesBy}
 use Rattle.refusals.specs.Outcome.{Outcome, outcome, FrontWritten}
 use Rattle.telegrams.specs.Telegram.{telegram_of}
-use Rattle.encoder.specs.declared.Encoded.{Encoded}
-use Rattle.encoder.specs.declared.Encoded.TheVariants.{Pair, Refused}
-use Rattle.encoder.specs.Encoding.{format_of, encode_table, encode_of}
+use Rattle.encoder.specs.Encoding.{format_of, encode_table, encode_of, encoded_with}
 use Rattle.encoder.specs.FirstPair.{FirstProper, NoneProper}
+use Rattle.encoder.specs.declared.Encoded.{Encoded}
 
 -- a block of the format, all bits, and room for the telegram
 pub record CleanBlock (format : Format) (u out : List ℕ) : Type 0 where
@@ -22,22 +21,22 @@ pub record CleanBlock (format : Format) (u out : List ℕ) : Type 0 where
   pub room : (numbers_of format).n ≤ length out
 
 -- the pair B, esb, its count, and its telegram over the front of the output
-abbrev pub wrote_pair : Format → List ℕ → List ℕ → ℕ → ℕ → Outcome Encoded
+abbrev pub wrote_pair : Format → List ℕ → List ℕ → ℕ → ℕ → Outcome (Result Encoded Refusal)
 wrote_pair format u out B esb =
-    outcome (Pair format B esb (1024 * B + esb + 1)) (telegram_of (numbers_of format) u B esb ++ drop (numbers_of format).n out)
+    outcome (Ok (encoded_with format B esb (1024 * B + esb + 1))) (telegram_of (numbers_of format) u B esb ++ drop (numbers_of format).n out)
 
 -- refusal 4, and the output as it was
-abbrev pub found_none : List ℕ → Outcome Encoded
-found_none out = outcome (Refused NoPair) out
+abbrev pub found_none : List ℕ → Outcome (Result Encoded Refusal)
+found_none out = outcome (Err NoPair) out
 
 -- demand 1: what encode answers by its table; each quotation is from document 01, "When the bench says no"
 pub record EncodeAnswers (u out : List ℕ) : Type 0 where
   -- "The lowest number that applies is given", and none otherwise
-  pub refuses : RefusesBy refusal_number Refused (encode_table (format_of u) (length out) u) (encode_of u out).answer
+  pub refuses : RefusesBy refusal_number Err (encode_table (format_of u) (length out) u) (encode_of u out).answer
   -- "outputs keep every byte"
-  pub keeps : (r : Refusal) → (encode_of u out).answer ≡ Refused r → (encode_of u out).output ≡ out
+  pub keeps : (r : Refusal) → (encode_of u out).answer ≡ Err r → (encode_of u out).output ≡ out
   -- "Success writes exactly the first n or m bytes; longer outputs keep their tails."
-  pub writes : (format : Format) (B esb tried : ℕ) → (encode_of u out).answer ≡ Pair format B esb tried
+  pub writes : (format : Format) (B esb tried : ℕ) → (encode_of u out).answer ≡ Ok (encoded_with format B esb tried)
       → FrontWritten (numbers_of format).n out (encode_of u out).output
 
 -- demand 2: "Lent clean input and room for the answer, the encoder gives the first pair of scrambling and shaping bits, in counting order,

@@ -1,7 +1,7 @@
 -- What encoding a block answers, and what the output holds afterwards (document 01, "Search, reading and place", and
 -- "When the bench says no").
 -- Assumes nothing.
-use Rattle.std.specs.Prelude.{ℕ, ◌+◌, ◌/◌, ◌%◌, Bool, not, List, [], ◌∷◌, ◌++◌, eqb, leb, length, drop}
+use Rattle.std.specs.Prelude.{ℕ, ◌+◌, ◌/◌, ◌%◌, Bool, not, List, [], ◌∷◌, ◌++◌, eqb, leb, length, drop, Result, Ok, Err}
 use Rattle.bits.specs.Bits.{all_bits}
 use Rattle.bits.specs.Search.{First, first_of, is_found, which_found}
 use Rattle.formats.specs.declared.format.Format.{Format}
@@ -15,13 +15,17 @@ use Rattle.refusals.specs.AnswerValues.{format_number}
 use Rattle.telegrams.specs.Telegram.{telegram_of}
 use Rattle.conditions.specs.Conditions.{proper}
 use Rattle.encoder.specs.declared.Encoded.{Encoded}
-use Rattle.encoder.specs.declared.Encoded.TheVariants.{Pair, Refused}
+use Rattle.telegrams.specs.Telegram.{pair_with}
+
+-- the format, the pair B, esb, and the count of pairs tried
+abbrev pub encoded_with : Format → ℕ → ℕ → ℕ → Encoded
+encoded_with format B esb tried = record { format = format; pair = pair_with B esb; tried = tried }
 
 -- the values of each answer: the number, 0 where nothing is refused, the format, B, esb and the count of pairs tried; a refusal has
 -- the number and the count
-abbrev pub encoded_values : Encoded → List ℕ
-encoded_values (Pair format B esb tried) = 0 ∷ format_number format ∷ B ∷ esb ∷ tried ∷ []
-encoded_values (Refused refusal) = refusal_number refusal ∷ 0 ∷ 0 ∷ 0 ∷ tried_count refusal ∷ []
+abbrev pub encoded_values : Result Encoded Refusal → List ℕ
+encoded_values (Ok first) = 0 ∷ format_number first.format ∷ first.pair.scrambling ∷ first.pair.shaping ∷ first.tried ∷ []
+encoded_values (Err refusal) = refusal_number refusal ∷ 0 ∷ 0 ∷ 0 ∷ tried_count refusal ∷ []
 
 -- the format that the block's length picks
 abbrev pub format_of : List ℕ → Format
@@ -50,14 +54,14 @@ encode_table format room u =
     ∷ []
 
 -- the pair, its count, and its telegram over the front of the output
-unfoldable pub written : Format → List ℕ → List ℕ → ℕ → Outcome Encoded
+unfoldable pub written : Format → List ℕ → List ℕ → ℕ → Outcome (Result Encoded Refusal)
 written format u out p =
-    outcome (Pair format (p / 1024) (p % 1024) (p + 1)) (telegram_at format u p ++ drop (numbers_of format).n out)
+    outcome (Ok (encoded_with format (p / 1024) (p % 1024) (p + 1))) (telegram_at format u p ++ drop (numbers_of format).n out)
 
-unfoldable pub encode_as : Format → List ℕ → List ℕ → Outcome Encoded
+unfoldable pub encode_as : Format → List ℕ → List ℕ → Outcome (Result Encoded Refusal)
 encode_as format u out =
-    outcome_by Refused out (written format u out (which_found (first_pair format u))) (verdict (encode_table format (length out) u))
+    outcome_by Err out (written format u out (which_found (first_pair format u))) (verdict (encode_table format (length out) u))
 
 -- any block
-unfoldable pub encode_of : List ℕ → List ℕ → Outcome Encoded
+unfoldable pub encode_of : List ℕ → List ℕ → Outcome (Result Encoded Refusal)
 encode_of u out = encode_as (format_of u) u out

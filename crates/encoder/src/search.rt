@@ -5,55 +5,50 @@ ghost use Rattle.formats.specs.Numbers.{numbers_of};
 ghost use Rattle.encoder.specs.Encoding.{first_pair};
 ghost use Rattle.encoder.specs.Searched.{made_proper, pair_of};
 
-use formats::format;
 use formats::format::{Format, Long};
-use telegrams::{fields, making};
-
-// The first pair of scrambling bits and extra shaping bits that passes.
-#[derive(Clone, Copy)]
-pub enum Search {
-    Pair { scrambling: u16, shaping: u16 },
-    Nothing,
-}
+use telegrams::{Block, Pair, Telegram, fields, making};
 
 // Whether the last ten words are in the table and conditions 2, 3 and 4 hold: by these a telegram that was made is proper.
-fn passes(format: Format, telegram: &[u8]) -> bool
-    requires t { T (all_bits telegram.now) }
-    requires telegram_len { length telegram.now ≡ (numbers_of format).n }
-    ensures { result ≡ made_proper format telegram.now }
+fn passes(telegram: Telegram<'_>) -> bool
+    ensures { result ≡ made_proper telegram.entry.format telegram.entry.bits.now }
 {
-    let at = telegram.len() - 110;
-    if !fields::all_words(&telegram[at..], 10) {
-        return false;
-    }
-    conditions::conditions(format, telegram)
+    let at = telegram.bits.len() - 110;
+    fields::all_words(&telegram.bits[at..], 10) && conditions::conditions(telegram)
 }
 
 // The first pair, B from 0 to 4095 and within each esb from 0 to 1023, whose telegram is proper. The shaped data is formed
 // once for each B.
-pub fn first_pair(format: Format, block: &[u8]) -> Search
-    requires t { T (all_bits block.now) }
+pub fn first_pair(format: Format, block: &[u8]) -> Option<Pair>
+    requires are_bits { T (all_bits block.now) }
     requires block_len { length block.now ≡ (numbers_of format).m }
     ensures { result ≡ pair_of (first_pair format block.now) }
 {
     let m = block.len();
-    let n = format::telegram_bits(format);
-    let mut summed = [0u8; Long::M];
-    making::write_summed(block, &mut summed);
+    let n = format.telegram_bits();
+    let mut buffer = [0u8; Long::M];
+    making::write_summed(block, &mut buffer);
+    let summed = Block {
+        format,
+        bits: &buffer[..m],
+    };
     let mut telegram = [0u8; Long::N];
-    'search: loop {
-        for b in 0..4096 {
-            making::write_shaped_data(format, &summed[..m], b, &mut telegram);
-            for esb in 0..1024 {
-                making::complete(format, b, esb, &mut telegram);
-                if passes(format, &telegram[..n]) {
-                    break 'search Search::Pair {
-                        scrambling: b,
-                        shaping: esb,
-                    };
+    'search: {
+        for scrambling in 0..4096 {
+            making::write_shaped_data(summed, scrambling, &mut telegram);
+            for shaping in 0..1024 {
+                let pair = Pair {
+                    scrambling,
+                    shaping,
+                };
+                making::complete(format, pair, &mut telegram);
+                if passes(Telegram {
+                    format,
+                    bits: &telegram[..n],
+                }) {
+                    break 'search Some(pair);
                 }
             }
         }
-        break 'search Search::Nothing;
+        None
     }
 }

@@ -4,7 +4,9 @@ ghost use Rattle.std.specs.Prelude.{◌≡◌, ◌<◌, ◌^◌, T};
 ghost use Rattle.std.specs.Int.Bits.{bit_xor};
 ghost use Rattle.formats.specs.Value.{value_of, powers, all_below};
 
-#[derive(Clone, Copy)]
+use std::ops::BitXor;
+
+#[derive(Clone, Copy, PartialEq, Eq)]
 pub struct Register {
     pub high: u64,
     pub low: u64,
@@ -18,7 +20,7 @@ impl Register {
         Self { high: 0, low: 0 }
     }
 
-    // With x^e added.
+    // With x^e added: a bit of one of two words, which no method of the library has.
     pub fn plus_power(self, e: u8) -> Self
         requires { e < 128 }
         ensures { value_of result ≡ bit_xor (value_of self) (2 ^ e) }
@@ -42,11 +44,23 @@ impl Register {
         ensures { value_of result ≡ powers 0 exponents.now }
     {
         let mut sum = Register::zero();
-        let mut i = 0;
-        while i < exponents.len() {
-            sum = sum.plus_power(exponents[i]);
-            i += 1;
+        for e in exponents {
+            sum = sum.plus_power(*e);
         }
         sum
+    }
+}
+
+// The sum of two polynomials.
+impl BitXor for Register {
+    type Output = Self;
+
+    ghost bitxor_gives = { λ a b sum. value_of sum ≡ bit_xor (value_of a) (value_of b) };
+
+    fn bitxor(self, rhs: Self) -> Self {
+        Self {
+            high: self.high ^ rhs.high,
+            low: self.low ^ rhs.low,
+        }
     }
 }

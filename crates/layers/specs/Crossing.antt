@@ -1,15 +1,13 @@
 -- How values that are no numbers are passed to and from another language.
 -- Assumes nothing.
-use Rattle.std.specs.Prelude.{ℕ, ◌+◌, ◌/◌, ◌%◌, ◌^◌, Bool, true, false, List, [], ◌∷◌}
+use Rattle.std.specs.Prelude.{ℕ, ◌+◌, ◌/◌, ◌%◌, ◌^◌, Bool, true, false, List, [], ◌∷◌, Option, Result, Ok, Err}
+use Rattle.std.specs.Option.{unwrap_or}
 use Rattle.bits.specs.Search.{First, found, none}
 use Rattle.formats.specs.Numbers.{Numbers, numbers_of}
 use Rattle.formats.specs.declared.format.Format.{Format}
 use Rattle.formats.specs.declared.format.Format.TheVariants.{Long, Short}
-use Rattle.words.specs.declared.Lookup.{Lookup}
-use Rattle.words.specs.declared.Lookup.TheVariants.{Number, NotInTable}
 use Rattle.words.specs.Words.{kind_number}
-use Rattle.cyclic.specs.declared.Turn.{Turn}
-use Rattle.cyclic.specs.declared.Turn.TheVariants.{At, Nothing}
+use Rattle.words.specs.declared.Kind.{Kind}
 
 -- the format: long, or otherwise short
 abbrev pub format_of : Bool → Format
@@ -21,14 +19,13 @@ abbrev pub numbers : Bool → Numbers
 numbers isLong = numbers_of (format_of isLong)
 
 -- the number that a look-up finds, or 1024 and the number of the kind
-abbrev pub number_or_kind : Lookup → ℕ
-number_or_kind (Number i) = i
-number_or_kind (NotInTable kind) = 1024 + kind_number kind
+abbrev pub number_or_kind : Result ℕ Kind → ℕ
+number_or_kind (Ok i) = i
+number_or_kind (Err kind) = 1024 + kind_number kind
 
 -- the turn, or n where there is none
-abbrev pub turn_or : ℕ → Turn → ℕ
-turn_or n (At t) = t
-turn_or n Nothing = n
+abbrev pub turn_or : ℕ → Option ℕ → ℕ
+turn_or n turn = unwrap_or turn n
 
 -- the place found, or n where none is
 abbrev pub place_or : ℕ → First → ℕ

@@ -17,13 +17,13 @@ ghost use Rattle.captures.specs.Captures.{first_place};
 ghost use Rattle.captures.specs.Attempts.{out_found};
 ghost use Rattle.layers.specs.Crossing.{format_of, numbers, number_or_kind, turn_or, place_or, two_words};
 
-use captures::Capture;
+use captures::Found;
 use conditions::{off_step, repeating, thinned};
-use cyclic::{Turn, check_bits, remainder, turning};
-use formats::format;
+use cyclic::{check_bits, remainder, turning};
 use formats::format::{Format, Long};
 use formats::register::Register;
-use words::Lookup;
+use refusals::Refusal;
+use telegrams::Telegram;
 
 // Whether every byte of s is 0 or 1.
 pub fn balise_layers_all_bits(s: &[u8]) -> bool
@@ -70,8 +70,8 @@ pub fn balise_layers_look_up(word: u16) -> u16
 {
     let found = words::look_up(word);
     match found {
-        Lookup::Number(i) => i,
-        Lookup::NotInTable(kind) => 1024 + words::kind_number(kind),
+        Ok(i) => i,
+        Err(kind) => 1024 + kind.number(),
     }
 }
 
@@ -91,7 +91,7 @@ pub fn balise_layers_in_group_20(word: u16) -> bool
 
 // Scrambles a block into the front of out.
 pub fn balise_layers_scramble(b: u16, block: &[u8], out: &mut [u8])
-    requires t { T (all_bits block.now) }
+    requires are_bits { T (all_bits block.now) }
     requires block_in_bounds { length block.now ≤ length out.old }
     ensures { out.new ≡ scrambled b block.now ++ drop (length block.now) out.old }
 {
@@ -100,7 +100,7 @@ pub fn balise_layers_scramble(b: u16, block: &[u8], out: &mut [u8])
 
 // Descrambles a block into the front of out.
 pub fn balise_layers_descramble(b: u16, block: &[u8], out: &mut [u8])
-    requires t { T (all_bits block.now) }
+    requires are_bits { T (all_bits block.now) }
     requires block_in_bounds { length block.now ≤ length out.old }
     ensures { out.new ≡ descrambled b block.now ++ drop (length block.now) out.old }
 {
@@ -109,7 +109,7 @@ pub fn balise_layers_descramble(b: u16, block: &[u8], out: &mut [u8])
 
 // Replaces the first block of ten bits by the sum of all blocks modulo 1024.
 pub fn balise_layers_add_sum(block: &mut [u8])
-    requires t { T (all_bits block.old) }
+    requires are_bits { T (all_bits block.old) }
     requires in_bounds { 10 ≤ length block.old }
     requires block_len_bound { length block.old ≤ 1000 }
     ensures { block.new ≡ with_sum (length block.old / 10) block.old }
@@ -119,7 +119,7 @@ pub fn balise_layers_add_sum(block: &mut [u8])
 
 // Takes the other blocks from the first modulo 1024.
 pub fn balise_layers_remove_sum(block: &mut [u8])
-    requires t { T (all_bits block.old) }
+    requires are_bits { T (all_bits block.old) }
     requires in_bounds { 10 ≤ length block.old }
     requires block_len_bound { length block.old ≤ 1000 }
     ensures { block.new ≡ without_sum (length block.old / 10) block.old }
@@ -127,7 +127,7 @@ pub fn balise_layers_remove_sum(block: &mut [u8])
     scrambling::remove_sum(block);
 }
 
-// The format that `long` stands for.
+// The format that `long` stands for: C has no other name for it.
 fn format_of(long: bool) -> Format
     ensures { result ≡ format_of long }
 {
@@ -139,7 +139,7 @@ pub fn balise_layers_telegram_bits(long: bool) -> usize
     ensures { result ≡ (numbers long).n }
 {
     let format = format_of(long);
-    format::telegram_bits(format)
+    format.telegram_bits()
 }
 
 // The format's user bits.
@@ -147,7 +147,7 @@ pub fn balise_layers_user_bits(long: bool) -> usize
     ensures { result ≡ (numbers long).m }
 {
     let format = format_of(long);
-    format::user_bits(format)
+    format.user_bits()
 }
 
 // How many bits at the end of the format's window repeat its first.
@@ -155,7 +155,7 @@ pub fn balise_layers_extra_bits(long: bool) -> usize
     ensures { result ≡ (numbers long).r }
 {
     let format = format_of(long);
-    format::extra_bits(format)
+    format.extra_bits()
 }
 
 // The format's words.
@@ -163,7 +163,7 @@ pub fn balise_layers_words(long: bool) -> usize
     ensures { result ≡ (numbers long).words }
 {
     let format = format_of(long);
-    format::words(format)
+    format.words()
 }
 
 // Writes a register's two words into the front of out.
@@ -186,7 +186,7 @@ pub fn balise_layers_remainder_f(long: bool, bits: &[u8]) -> u64
 
 // The remainder of bits by g, into the first two words of out.
 pub fn balise_layers_remainder_g(long: bool, bits: &[u8], out: &mut [u64])
-    requires t { T (all_bits bits.now) }
+    requires are_bits { T (all_bits bits.now) }
     requires in_bounds { 2 ≤ length out.old }
     ensures { out.new ≡ two_words (number_of (remainder (g_of (numbers long)) bits.now)) ++ drop 2 out.old }
 {
@@ -197,7 +197,7 @@ pub fn balise_layers_remainder_g(long: bool, bits: &[u8], out: &mut [u64])
 
 // The remainder of bits by f*g, into the first two words of out.
 pub fn balise_layers_remainder_fg(long: bool, bits: &[u8], out: &mut [u64])
-    requires t { T (all_bits bits.now) }
+    requires are_bits { T (all_bits bits.now) }
     requires in_bounds { 2 ≤ length out.old }
     ensures { out.new ≡ two_words (number_of (remainder (fg_of (numbers long)) bits.now)) ++ drop 2 out.old }
 {
@@ -208,7 +208,7 @@ pub fn balise_layers_remainder_fg(long: bool, bits: &[u8], out: &mut [u64])
 
 // The check bits of the bits above them, into the first 85 bytes of out.
 pub fn balise_layers_check_bits(long: bool, bits: &[u8], out: &mut [u8])
-    requires t { T (all_bits bits.now) }
+    requires are_bits { T (all_bits bits.now) }
     requires in_bounds { 85 ≤ length out.old }
     ensures { out.new ≡ check_bits (numbers long) bits.now ++ drop 85 out.old }
 {
@@ -224,10 +224,7 @@ pub fn balise_layers_turn(long: bool, remainder: u64) -> usize
 {
     let format = format_of(long);
     let turn = turning::turn(format, remainder);
-    match turn {
-        Turn::At(t) => t,
-        Turn::Nothing => format::telegram_bits(format),
-    }
+    turn.unwrap_or(format.telegram_bits())
 }
 
 // Whether condition 2 holds of a telegram's bits.
@@ -236,7 +233,10 @@ pub fn balise_layers_off_step(long: bool, telegram: &[u8]) -> bool
     ensures { result ≡ off_step_within (format_of long) telegram.now }
 {
     let format = format_of(long);
-    off_step::within(format, telegram)
+    off_step::within(Telegram {
+        format,
+        bits: telegram,
+    })
 }
 
 // Whether condition 3 holds of a telegram's bits.
@@ -245,7 +245,10 @@ pub fn balise_layers_not_repeating(long: bool, telegram: &[u8]) -> bool
     ensures { result ≡ not_repeating (format_of long) telegram.now }
 {
     let format = format_of(long);
-    repeating::not_repeating(format, telegram)
+    repeating::not_repeating(Telegram {
+        format,
+        bits: telegram,
+    })
 }
 
 // Whether condition 4 holds of a telegram's bits.
@@ -254,16 +257,19 @@ pub fn balise_layers_thinned_out(long: bool, telegram: &[u8]) -> bool
     ensures { result ≡ thinned_within (format_of long) telegram.now }
 {
     let format = format_of(long);
-    thinned::within(format, telegram)
+    thinned::within(Telegram {
+        format,
+        bits: telegram,
+    })
 }
 
 // The place of what a search without the tests of the calls found, or `none` where it found nothing.
-fn place_or(none: usize, found: Capture) -> usize
+fn place_or(none: usize, found: Result<Found, Refusal>) -> usize
     ensures { (s out o : List ℕ) → out_found s out (first_place s) ≡ outcome found o → result ≡ place_or none (first_place s) }
 {
     match found {
-        Capture::Found { place, .. } => place,
-        Capture::Refused(_) => none,
+        Ok(found) => found.place,
+        Err(_) => none,
     }
 }
 

@@ -84,7 +84,7 @@ pub extern "C" fn balise_layers_in_group_20(word: u16) -> bool
 // Scrambles a block into the front of out.
 #[unsafe(no_mangle)]
 pub extern "C" fn balise_layers_scramble(b: u16, block: &[u8], out: &mut [u8])
-    requires t { T (all_bits block.now) }
+    requires are_bits { T (all_bits block.now) }
     requires block_in_bounds { length block.now ≤ length out.old }
     ensures { out.new ≡ scrambled b block.now ++ drop (length block.now) out.old }
 {
@@ -94,7 +94,7 @@ pub extern "C" fn balise_layers_scramble(b: u16, block: &[u8], out: &mut [u8])
 // Descrambles a block into the front of out.
 #[unsafe(no_mangle)]
 pub extern "C" fn balise_layers_descramble(b: u16, block: &[u8], out: &mut [u8])
-    requires t { T (all_bits block.now) }
+    requires are_bits { T (all_bits block.now) }
     requires block_in_bounds { length block.now ≤ length out.old }
     ensures { out.new ≡ descrambled b block.now ++ drop (length block.now) out.old }
 {
@@ -104,7 +104,7 @@ pub extern "C" fn balise_layers_descramble(b: u16, block: &[u8], out: &mut [u8])
 // Replaces the first block of ten bits by the sum of all blocks modulo 1024.
 #[unsafe(no_mangle)]
 pub extern "C" fn balise_layers_add_sum(block: &mut [u8])
-    requires t { T (all_bits block.old) }
+    requires are_bits { T (all_bits block.old) }
     requires in_bounds { 10 ≤ length block.old }
     requires block_len_bound { length block.old ≤ 1000 }
     ensures { block.new ≡ with_sum (length block.old / 10) block.old }
@@ -115,7 +115,7 @@ pub extern "C" fn balise_layers_add_sum(block: &mut [u8])
 // Takes the other blocks from the first modulo 1024.
 #[unsafe(no_mangle)]
 pub extern "C" fn balise_layers_remove_sum(block: &mut [u8])
-    requires t { T (all_bits block.old) }
+    requires are_bits { T (all_bits block.old) }
     requires in_bounds { 10 ≤ length block.old }
     requires block_len_bound { length block.old ≤ 1000 }
     ensures { block.new ≡ without_sum (length block.old / 10) block.old }
@@ -167,7 +167,7 @@ pub extern "C" fn balise_layers_remainder_f(long: bool, bits: &[u8]) -> u64
 // The remainder of bits by g, into the first two words of out.
 #[unsafe(no_mangle)]
 pub extern "C" fn balise_layers_remainder_g(long: bool, bits: &[u8], out: &mut [u64])
-    requires t { T (all_bits bits.now) }
+    requires are_bits { T (all_bits bits.now) }
     requires in_bounds { 2 ≤ length out.old }
     ensures { out.new ≡ two_words (number_of (remainder (g_of (numbers long)) bits.now)) ++ drop 2 out.old }
 {
@@ -177,7 +177,7 @@ pub extern "C" fn balise_layers_remainder_g(long: bool, bits: &[u8], out: &mut [
 // The remainder of bits by f*g, into the first two words of out.
 #[unsafe(no_mangle)]
 pub extern "C" fn balise_layers_remainder_fg(long: bool, bits: &[u8], out: &mut [u64])
-    requires t { T (all_bits bits.now) }
+    requires are_bits { T (all_bits bits.now) }
     requires in_bounds { 2 ≤ length out.old }
     ensures { out.new ≡ two_words (number_of (remainder (fg_of (numbers long)) bits.now)) ++ drop 2 out.old }
 {
@@ -187,7 +187,7 @@ pub extern "C" fn balise_layers_remainder_fg(long: bool, bits: &[u8], out: &mut 
 // The check bits of the bits above them, into the first 85 bytes of out.
 #[unsafe(no_mangle)]
 pub extern "C" fn balise_layers_check_bits(long: bool, bits: &[u8], out: &mut [u8])
-    requires t { T (all_bits bits.now) }
+    requires are_bits { T (all_bits bits.now) }
     requires in_bounds { 85 ≤ length out.old }
     ensures { out.new ≡ check_bits (numbers long) bits.now ++ drop 85 out.old }
 {

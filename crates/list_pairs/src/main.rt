@@ -4,9 +4,10 @@
 #![tactic(auto)]
 
 use formats::format::Long;
-use lister::{Listed, Onward};
+use lister::Listed;
+use refusals::Refusal;
 use std::io;
-use texts::reading::Progress;
+use telegrams::Pair;
 use texts::{front, input, output};
 
 // The most pairs that are written.
@@ -35,44 +36,40 @@ fn print_refused(rt: &(impl Print + Eprint), count: usize) -> io::Result<()> {
     Ok(())
 }
 
-// The first pair from B and esb on.
-fn pair_from(block: &[u8], b: u16, esb: u16) -> Listed {
+// The first pair from a given one on.
+fn pair_from(block: &[u8], pair: Pair) -> Result<Option<Listed>, Refusal> {
     let mut telegram = [0u8; Long::N];
-    lister::next(block, b as u64, esb as u64, &mut telegram)
+    lister::next(
+        block,
+        pair.scrambling as u64,
+        pair.shaping as u64,
+        &mut telegram,
+    )
 }
 
-// The first pair after B and esb.
-fn pair_after(block: &[u8], b: u16, esb: u16) -> Listed {
-    let onward = lister::just_after(b, esb);
-    match onward {
-        Onward::From {
-            scrambling,
-            shaping,
-        } => pair_from(block, scrambling, shaping),
-        Onward::Ended => Listed::NoMore,
-    }
-}
-
-// Writes a pair, and answers with the next one. After another answer there is none: it stays.
-fn list_pair(rt: &impl Print, block: &[u8], answer: Listed) -> io::Result<Listed> {
-    match answer {
-        Listed::Pair {
-            format: _,
-            scrambling,
-            shaping,
-        } => {
-            print_pair(rt, scrambling, shaping)?;
-            Ok(pair_after(block, scrambling, shaping))
-        }
-        _ => Ok(answer),
+// The first pair after a given one.
+fn pair_after(block: &[u8], pair: Pair) -> Result<Option<Listed>, Refusal> {
+    match lister::just_after(pair) {
+        Some(onward) => pair_from(block, onward),
+        None => Ok(None),
     }
 }
 
 // Writes the first hundred pairs, and answers with what comes after them.
-fn list_pairs(rt: &impl Print, block: &[u8]) -> io::Result<Listed> {
-    let mut answer = pair_from(block, 0, 0);
+fn list_pairs(rt: &impl Print, block: &[u8]) -> io::Result<Result<Option<Listed>, Refusal>> {
+    let mut answer = pair_from(
+        block,
+        Pair {
+            scrambling: 0,
+            shaping: 0,
+        },
+    );
     for _ in 0..LINES {
-        answer = list_pair(rt, block, answer)?;
+        let Ok(Some(listed)) = answer else {
+            return Ok(answer);
+        };
+        print_pair(rt, listed.pair.scrambling, listed.pair.shaping)?;
+        answer = pair_after(block, listed.pair);
     }
     Ok(answer)
 }
@@ -81,15 +78,15 @@ fn list_pairs(rt: &impl Print, block: &[u8]) -> io::Result<Listed> {
 fn report(rt: &(impl Print + Eprint), block: &[u8]) -> io::Result<()> {
     let after = list_pairs(rt, block)?;
     match after {
-        Listed::Pair { .. } => print_more(rt),
-        Listed::NoMore => print_end(rt),
-        Listed::Refused(_) => print_refused(rt, block.len()),
+        Ok(Some(_)) => print_more(rt),
+        Ok(None) => print_end(rt),
+        Err(_) => print_refused(rt, block.len()),
     }
 }
 
 fn main(rt: HostRuntime) -> io::Result<()> {
     let mut block = [0u8; Long::M];
-    let Progress::Count(count) = input::read_text(&rt, &mut block) else {
+    let Ok(count) = input::read_text(&rt, &mut block) else {
         return output::print_bad(&rt);
     };
     report(&rt, front(&block, count))

@@ -1,5 +1,5 @@
 -- A listing from 0, 0 on has every proper pair once, in order, and no other (document 02, No. 9). Assumes nothing.
-use mathlib.Core.Path.{◌≡◌, refl, sym, ap, ap₂, subst, ◌∙◌}
+use mathlib.Core.Path.{◌≡◌, refl, sym, ap, subst, ◌∙◌}
 use mathlib.Core.Bool.{Bool, true, false, cond}
 use mathlib.Core.List.{List, [], ◌∷◌, ◌++◌}
 use Prim.Native.Nat.{ℕ, zero, suc, ◌+◌, ◌-◌, ◌*◌, ◌/◌, ◌%◌, ◌≤◌, ◌<◌}
@@ -19,16 +19,18 @@ use Rattle.cyclic.proofs.Formats.{facts_of}
 use Rattle.telegrams.proofs.Made.{length_made}
 use Rattle.encoder.specs.Encodes.{CleanBlock}
 use Rattle.encoder.specs.Encoding.{telegram_at, passes}
-use Rattle.encoder.proofs.Pairs.{pair_scrambling, pair_shaping}
+use Rattle.encoder.proofs.Pairs.{pair_searched}
 use Rattle.quick_encoder.specs.PairFrom.{pair_from}
 use Rattle.maker.specs.Makes.{InOrder}
-use Rattle.lister.specs.declared.Listed.{Listed}
-use Rattle.lister.specs.declared.Onward.{Onward}
-use Rattle.lister.specs.declared.Onward.TheVariants.{From, Ended}
 use Rattle.lister.specs.Listing.{next_of, listed}
 use Rattle.lister.specs.Listings.{BAndEsb, then_on, listing, pairs_from, proper_of, proper_pairs, ListsAll}
 use Rattle.lister.proofs.Steps.{next_is}
 use Rattle.lister.proofs.JustAfter.{onward_at, onward_from, onward_ended, after_place}
+use Rattle.std.specs.Prelude.{Option, Result, Some, None}
+use Rattle.telegrams.specs.Telegram.{pair_with}
+use Rattle.telegrams.specs.declared.Pair.{Pair}
+use Rattle.lister.specs.declared.Listed.{Listed}
+use Rattle.refusals.specs.declared.Refusal.{Refusal}
 
 -- ---- the proper ones of k pairs from p on, by the search for the first of them
 
@@ -89,7 +91,7 @@ module _ (format : Format) (u : List ℕ) where
 
 -- ---- the calls
 
-listing_ended : (calls : ℕ) (u out : List ℕ) → listing calls u out Ended ≡ []
+listing_ended : (calls : ℕ) (u out : List ℕ) → listing calls u out None ≡ []
 unfolding listing
 listing_ended zero u out = refl
 listing_ended (suc calls) u out = refl
@@ -108,11 +110,11 @@ module _ (format : Format) (u : List ℕ) (bits : T (all_bits u)) (size : length
       omega (arith, length-append (telegram_at format u q) (drop F.n out), length_made F (facts_of format) (sizes_of format) u (q / 1024) (q % 1024))
 
   -- what a call gives, and those after it
-  abbrev answers : ℕ → Outcome Listed → List BAndEsb
+  abbrev answers : ℕ → Outcome (Result (Option Listed) Refusal) → List BAndEsb
   answers calls o = then_on (listing calls u o.output) o.answer
 
   one-call : (calls p : ℕ) (out : List ℕ) → ((q : ℕ) (left : List ℕ) → Lists calls q left) → (numbers_of format).n ≤ length out → p < pair_count
-      → pair_count - p ≤ suc calls → listing (suc calls) u out (From (p / 1024) (p % 1024)) ≡ proper_from format u p (pair_count - p)
+      → pair_count - p ≤ suc calls → listing (suc calls) u out (Some (pair_with (p / 1024) (p % 1024))) ≡ proper_from format u p (pair_count - p)
   unfolding listing pair_from
   one-call calls p out after room below enough = go (first_of (passes format u) p (pair_count - p)) refl
     where
@@ -130,7 +132,7 @@ module _ (format : Format) (u : List ℕ) (bits : T (all_bits u)) (size : length
           let within : q < pair_count = omega (arith, s.from, s.below) in
           let count : pair_count - suc q ≡ p + (pair_count - p) - suc q = omega arith in
           next (found q) e
-          ∙ ap (λ (o : Onward). (q / 1024, q % 1024) ∷ listing calls u left o) (after_place q within)
+          ∙ ap (λ (o : Option Pair). (q / 1024, q % 1024) ∷ listing calls u left o) (after_place q within)
           ∙ ap (λ (l : List BAndEsb). (q / 1024, q % 1024) ∷ l) (after (suc q) left (left_room q out) (omega arith) (omega (arith, s.from)))
           ∙ ap (λ (k : ℕ). (q / 1024, q % 1024) ∷ proper_from format u (suc q) k) count
           ∙ sym s.rest
@@ -159,8 +161,7 @@ lists_all format u out clean =
       all = λ calls enough. from calls 0 (omega arith) (omega arith);
       onward = λ B esb small below calls enough.
           let p : ℕ = 1024 * B + esb in
-          let starts : From B esb ≡ From (p / 1024) (p % 1024) = sym (ap₂ From (pair_scrambling B esb below) (pair_shaping B esb below)) in
-          ap (listing calls u out) (starts ∙ sym (onward_from p (omega arith))) ∙ from calls p (omega arith) (omega arith);
+          ap (listing calls u out) (sym (pair_searched B esb below) ∙ sym (onward_from p (omega arith))) ∙ from calls p (omega arith) (omega arith);
     }
   where
     from : (calls p : ℕ) → p ≤ pair_count → pair_count - p ≤ calls → listing calls u out (onward_at p) ≡ proper_from format u p (pair_count - p)

@@ -1,5 +1,5 @@
 -- What asking for the next proper pair means. Assumes nothing.
-use Prim.Native.Nat.{ℕ, ◌+◌, ◌*◌, ◌<◌}
+use Prim.Native.Nat.{ℕ, ◌+◌, ◌*◌, ◌/◌, ◌%◌, ◌<◌}
 use mathlib.Core.Path.{◌≡◌, refl, sym, ap, subst, ◌∙◌}
 use mathlib.Core.List.{List}
 use lib.ListN.{length}
@@ -21,24 +21,24 @@ use Rattle.maker.specs.Making.{format_of}
 use Rattle.maker.specs.Makes.{InOrder}
 use Rattle.maker.specs.PairTests.{pair_table}
 use Rattle.maker.proofs.PairTests.{accepted_in_order}
-use Rattle.lister.specs.declared.Listed.{Listed}
-use Rattle.lister.specs.declared.Listed.TheVariants.{Pair, NoMore, Refused}
-use Rattle.lister.specs.Listing.{listed, next_of}
+use Rattle.lister.specs.Listing.{listed, next_of, listed_with}
 use Rattle.lister.specs.Lists.{NextAnswers, NextExactly}
-use Rattle.lister.proofs.Steps.{by_verdict, tests_refuse}
+use Rattle.lister.proofs.Steps.{by_verdict, tests_refuse, same_listed}
 use Rattle.lister.proofs.NextOrNone.{next_or_none_lem, answered_next, gives_next_lem, says_no_more_lem}
+use Rattle.std.specs.Prelude.{Option, Result, Some, None, Ok, Err}
+use Rattle.lister.specs.declared.Listed.{Listed}
 
 -- the verdict that an answer tells
-abbrev said : Listed → Verdict Refusal
-said (Refused r) = refused r
-said (Pair format B esb) = accepted
-said NoMore = accepted
+abbrev said : Result (Option Listed) Refusal → Verdict Refusal
+said (Err r) = refused r
+said (Ok (Some next)) = accepted
+said (Ok None) = accepted
 
 -- only a refusal tells that it is one
-only : (a : Listed) (r : Refusal) → said a ≡ refused r → a ≡ Refused r
-only (Refused q) r e = cc
-only (Pair format B esb) r e = clash cc
-only NoMore r e = clash cc
+only : (a : Result (Option Listed) Refusal) (r : Refusal) → said a ≡ refused r → a ≡ Err r
+only (Err q) r e = cc
+only (Ok (Some next)) r e = clash cc
+only (Ok None) r e = clash cc
 
 module _ (u : List ℕ) (B esb : ℕ) (out : List ℕ) where
   abbrev table : Verdict Refusal
@@ -47,63 +47,63 @@ module _ (u : List ℕ) (B esb : ℕ) (out : List ℕ) where
   tells : said (next_of u B esb out).answer ≡ table
   tells =
       let next = listed (format_of u) u out (pair_from (format_of u) u (1024 * B + esb)) in
-      ap (λ (x : Outcome Listed). said x.answer) (by_verdict u B esb out table refl) ∙ ap said (answer_by_lem Refused out next table)
-      ∙ answer_said Refused said (λ r. refl) next.answer (listed-accepts (pair_from (format_of u) u (1024 * B + esb))) table
+      ap (λ (x : Outcome (Result (Option Listed) Refusal)). said x.answer) (by_verdict u B esb out table refl) ∙ ap said (answer_by_lem Err out next table)
+      ∙ answer_said Err said (λ r. refl) next.answer (listed-accepts (pair_from (format_of u) u (1024 * B + esb))) table
     where
       listed-accepts : (first : First) → said (listed (format_of u) u out first).answer ≡ accepted
       listed-accepts (found p) = refl
       listed-accepts none = refl
 
   -- what is not refused is in order
-  not_refused : (a : Listed) → (next_of u B esb out).answer ≡ a → said a ≡ accepted → InOrder (format_of u) u B esb out
+  not_refused : (a : Result (Option Listed) Refusal) → (next_of u B esb out).answer ≡ a → said a ≡ accepted → InOrder (format_of u) u B esb out
   not_refused a e accepts = accepted_in_order (format_of u) u B esb out (sym tells ∙ ap said e ∙ accepts)
 
   -- ---- an answer that is a pair
 
   -- the format is that which the block's length picks
-  pub pair_format : (format : Format) (C e : ℕ) → (next_of u B esb out).answer ≡ Pair format C e → format_of u ≡ format
+  pub pair_format : (format : Format) (C e : ℕ) → (next_of u B esb out).answer ≡ Ok (Some (listed_with format C e)) → format_of u ≡ format
   pair_format format C e is =
       let accepts = sym tells ∙ ap said is in
-      go (pair_from (format_of u) u (1024 * B + esb)) (sym (ap (λ (x : Outcome Listed). x.answer) (by_verdict u B esb out accepted accepts)) ∙ is)
+      go (pair_from (format_of u) u (1024 * B + esb)) (sym (ap (λ (x : Outcome (Result (Option Listed) Refusal)). x.answer) (by_verdict u B esb out accepted accepts)) ∙ is)
     where
-      go : (first : First) → (listed (format_of u) u out first).answer ≡ Pair format C e → format_of u ≡ format
-      go (found p) e = cc
-      go none e = clash cc
+      go : (first : First) → (listed (format_of u) u out first).answer ≡ Ok (Some (listed_with format C e)) → format_of u ≡ format
+      go (found p) given = (same_listed (format_of u) (p / 1024) (p % 1024) format C e cc).0
+      go none given = clash cc
 
-  pub pair_in_order : (format : Format) (C e : ℕ) → (next_of u B esb out).answer ≡ Pair format C e → InOrder format u B esb out
-  pair_in_order format C e is = subst (λ (f : Format). InOrder f u B esb out) (pair_format format C e is) (not_refused (Pair format C e) is refl)
+  pub pair_in_order : (format : Format) (C e : ℕ) → (next_of u B esb out).answer ≡ Ok (Some (listed_with format C e)) → InOrder format u B esb out
+  pair_in_order format C e is = subst (λ (f : Format). InOrder f u B esb out) (pair_format format C e is) (not_refused (Ok (Some (listed_with format C e))) is refl)
 
-  pub next_pair_small : (format : Format) (C e : ℕ) → (next_of u B esb out).answer ≡ Pair format C e → (C < 4096) × (e < 1024)
+  pub next_pair_small : (format : Format) (C e : ℕ) → (next_of u B esb out).answer ≡ Ok (Some (listed_with format C e)) → (C < 4096) × (e < 1024)
   next_pair_small format C e is =
       let f = (answered_next format u B esb out (pair_in_order format C e is) C e is).0 in
       (f.scrambling, f.shaping)
 
   -- its telegram stands over the front of the output
-  written-front : (format : Format) (C e : ℕ) → (next_of u B esb out).answer ≡ Pair format C e → FrontWritten (numbers_of format).n out (next_of u B esb out).output
+  written-front : (format : Format) (C e : ℕ) → (next_of u B esb out).answer ≡ Ok (Some (listed_with format C e)) → FrontWritten (numbers_of format).n out (next_of u B esb out).output
   written-front format C e is =
       let F = numbers_of format in
       let in_order = pair_in_order format C e is in
       let whole = (answered_next format u B esb out in_order C e is).1 in
-      subst (λ (x : Outcome Listed). FrontWritten F.n out x.output) (sym whole)
+      subst (λ (x : Outcome (Result (Option Listed) Refusal)). FrontWritten F.n out x.output) (sym whole)
       (front-written F.n (telegram_of F u C e) out (length_made F (facts_of format) (sizes_of format) u C e) in_order.room)
 
   -- ---- no more
 
-  kept_at_end : (next_of u B esb out).answer ≡ NoMore → (next_of u B esb out).output ≡ out
+  kept_at_end : (next_of u B esb out).answer ≡ Ok None → (next_of u B esb out).output ≡ out
   kept_at_end is =
       let accepts = sym tells ∙ ap said is in
       let whole = by_verdict u B esb out accepted accepts in
-      ap (λ (x : Outcome Listed). x.output) whole ∙ go (pair_from (format_of u) u (1024 * B + esb)) (sym (ap (λ (x : Outcome Listed). x.answer) whole) ∙ is)
+      ap (λ (x : Outcome (Result (Option Listed) Refusal)). x.output) whole ∙ go (pair_from (format_of u) u (1024 * B + esb)) (sym (ap (λ (x : Outcome (Result (Option Listed) Refusal)). x.answer) whole) ∙ is)
     where
-      go : (first : First) → (listed (format_of u) u out first).answer ≡ NoMore → (listed (format_of u) u out first).output ≡ out
+      go : (first : First) → (listed (format_of u) u out first).answer ≡ Ok None → (listed (format_of u) u out first).output ≡ out
       go (found p) e = clash cc
       go none e = refl
 
   pub next-answers : NextAnswers u B esb out
   next-answers =
       record {
-        refuses = refuses_in_order Refused said (λ r. refl) only (pair_table (format_of u) (length out) u B esb) (next_of u B esb out).answer tells;
-        keeps = λ r is. ap (λ (x : Outcome Listed). x.output) (tests_refuse u B esb out r (sym tells ∙ ap said is));
+        refuses = refuses_in_order Err said (λ r. refl) only (pair_table (format_of u) (length out) u B esb) (next_of u B esb out).answer tells;
+        keeps = λ r is. ap (λ (x : Outcome (Result (Option Listed) Refusal)). x.output) (tests_refuse u B esb out r (sym tells ∙ ap said is));
         keeps_at_end = kept_at_end;
         writes = written-front;
       }

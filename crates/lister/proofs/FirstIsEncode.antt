@@ -22,10 +22,11 @@ use Rattle.quick_encoder.proofs.OneScrambling.{from_the_first}
 use Rattle.maker.specs.Makes.{InOrder}
 use Rattle.maker.specs.PairTests.{pair_table}
 use Rattle.maker.proofs.PairTests.{accepted_in_order}
-use Rattle.lister.specs.declared.Listed.{Listed}
 use Rattle.lister.specs.Listing.{next_of}
 use Rattle.lister.specs.Lists.{as_encoded, FirstIsEncode}
 use Rattle.lister.proofs.Steps.{tests_refuse, pair_given, none_given}
+use Rattle.std.specs.Prelude.{Option, Result}
+use Rattle.lister.specs.declared.Listed.{Listed}
 
 -- ---- the tables
 
@@ -54,11 +55,11 @@ tests_then_search format room u =
 
 module _ (u out : List ℕ) where
   -- what encode gives is what an outcome of next stands for
-  abbrev Agrees : Outcome Listed → Type 0
+  abbrev Agrees : Outcome (Result (Option Listed) Refusal) → Type 0
   Agrees first = encode_of u out ≡ outcome (as_encoded first.answer) first.output
 
-  by_outcome : (first : Outcome Listed) → next_of u 0 0 out ≡ first → Agrees first → FirstIsEncode u out
-  by_outcome first e agrees = agrees ∙ ap (λ (o : Outcome Listed). outcome (as_encoded o.answer) o.output) (sym e)
+  by_outcome : (first : Outcome (Result (Option Listed) Refusal)) → next_of u 0 0 out ≡ first → Agrees first → FirstIsEncode u out
+  by_outcome first e agrees = agrees ∙ ap (λ (o : Outcome (Result (Option Listed) Refusal)). outcome (as_encoded o.answer) o.output) (sym e)
 
   refused_alike_lem : (r : Refusal) → verdict (pair_table (format_of u) (length out) u 0 0) ≡ refused r → FirstIsEncode u out
   refused_alike_lem r e =

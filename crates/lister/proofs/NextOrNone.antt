@@ -12,11 +12,12 @@ use Rattle.encoder.specs.FirstPair.{ProperFrom, NoneProperFrom}
 use Rattle.encoder.proofs.ProperFrom.{found_from, from_found, missing_from}
 use Rattle.quick_encoder.specs.PairFrom.{pair_from}
 use Rattle.maker.specs.Makes.{InOrder}
-use Rattle.lister.specs.declared.Listed.{Listed}
-use Rattle.lister.specs.declared.Listed.TheVariants.{Pair, NoMore}
-use Rattle.lister.specs.Listing.{next_of}
+use Rattle.lister.specs.Listing.{next_of, listed_with}
 use Rattle.lister.specs.Lists.{wrote_next}
-use Rattle.lister.proofs.Steps.{pair_given, none_given}
+use Rattle.lister.proofs.Steps.{same_listed, pair_given, none_given}
+use Rattle.std.specs.Prelude.{Option, Result, Some, None, Ok}
+use Rattle.lister.specs.declared.Listed.{Listed}
+use Rattle.refusals.specs.declared.Refusal.{Refusal}
 
 -- ---- the search from a place on
 
@@ -39,7 +40,7 @@ module _ (format : Format) (u : List ℕ) (s : ℕ) where
 abbrev NextOrNone : Format → List ℕ → ℕ → ℕ → List ℕ → Type 0
 NextOrNone format u B esb out =
     ((C : ℕ) × (e : ℕ) × ProperFrom format u (1024 * B + esb) C e × (next_of u B esb out ≡ wrote_next format u out C e))
-    ⊎ (NoneProperFrom format u (1024 * B + esb) × (next_of u B esb out ≡ outcome NoMore out))
+    ⊎ (NoneProperFrom format u (1024 * B + esb) × (next_of u B esb out ≡ outcome (Ok None) out))
 
 module _ (format : Format) (u : List ℕ) (B esb : ℕ) (out : List ℕ) (in_order : InOrder format u B esb out) where
   next_answered : (C e : ℕ) → ProperFrom format u (1024 * B + esb) C e → next_of u B esb out ≡ wrote_next format u out C e
@@ -56,29 +57,28 @@ module _ (format : Format) (u : List ℕ) (B esb : ℕ) (out : List ℕ) (in_ord
           inr (none-next format u (1024 * B + esb) e, none_given format u B esb out in_order e)
 
   -- a pair that is answered is the next that is proper, and its telegram is written
-  pub answered_next : (C e : ℕ) → (next_of u B esb out).answer ≡ Pair format C e
+  pub answered_next : (C e : ℕ) → (next_of u B esb out).answer ≡ Ok (Some (listed_with format C e))
       → ProperFrom format u (1024 * B + esb) C e × (next_of u B esb out ≡ wrote_next format u out C e)
   answered_next C e is = go next_or_none_lem
     where
       go : NextOrNone format u B esb out → ProperFrom format u (1024 * B + esb) C e × (next_of u B esb out ≡ wrote_next format u out C e)
       go (inl (D, d, f, whole)) =
-          let answers = sym (ap (λ (y : Outcome Listed). y.answer) whole) ∙ is in
-          let same_B : D ≡ C = cc in
-          let same-esb : d ≡ e = cc in
-          (subst₂ (ProperFrom format u (1024 * B + esb)) same_B same-esb f, cc)
+          let answers = sym (ap (λ (y : Outcome (Result (Option Listed) Refusal)). y.answer) whole) ∙ is in
+          let same = same_listed format D d format C e cc in
+          (subst₂ (ProperFrom format u (1024 * B + esb)) same.1 same.2 f, cc)
       go (inr (missing, whole)) =
-          let answers = sym (ap (λ (y : Outcome Listed). y.answer) whole) ∙ is in
+          let answers = sym (ap (λ (y : Outcome (Result (Option Listed) Refusal)). y.answer) whole) ∙ is in
           clash cc
 
   pub gives_next_lem : (C e : ℕ) → (next_of u B esb out ≡ wrote_next format u out C e) ↔ ProperFrom format u (1024 * B + esb) C e
-  gives_next_lem C e = (λ is. (answered_next C e (ap (λ (y : Outcome Listed). y.answer) is)).0, next_answered C e)
+  gives_next_lem C e = (λ is. (answered_next C e (ap (λ (y : Outcome (Result (Option Listed) Refusal)). y.answer) is)).0, next_answered C e)
 
-  pub says_no_more_lem : (next_of u B esb out ≡ outcome NoMore out) ↔ NoneProperFrom format u (1024 * B + esb)
+  pub says_no_more_lem : (next_of u B esb out ≡ outcome (Ok None) out) ↔ NoneProperFrom format u (1024 * B + esb)
   says_no_more_lem = go next_or_none_lem
     where
-      go : NextOrNone format u B esb out → (next_of u B esb out ≡ outcome NoMore out) ↔ NoneProperFrom format u (1024 * B + esb)
+      go : NextOrNone format u B esb out → (next_of u B esb out ≡ outcome (Ok None) out) ↔ NoneProperFrom format u (1024 * B + esb)
       go (inl (C, e, f, whole)) = (
-        λ is. let answers = ap (λ (y : Outcome Listed). y.answer) (sym whole ∙ is) in clash cc,
+        λ is. let answers = ap (λ (y : Outcome (Result (Option Listed) Refusal)). y.answer) (sym whole ∙ is) in clash cc,
         λ missing. absurd (missing C e f.scrambling f.shaping f.from f.proper_pair),
       )
       go (inr (missing, whole)) = (λ is. missing, λ h. whole)

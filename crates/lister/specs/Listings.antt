@@ -1,17 +1,16 @@
 -- The listing of all proper pairs of a block (document 02, No. 9): "Starting at pair 0, 0 and going on just after each answer, until no more
 -- is said or 4095, 1023 was the answer, gives every proper pair once, in order, and no other."
 -- Assumes nothing.
-use Rattle.std.specs.Prelude.{ℕ, zero, suc, ◌+◌, ◌-◌, ◌*◌, ◌/◌, ◌%◌, ◌≤◌, ◌<◌, ◌≡◌, cond, List, [], ◌∷◌}
+use Rattle.std.specs.Prelude.{ℕ, zero, suc, ◌+◌, ◌-◌, ◌*◌, ◌/◌, ◌%◌, ◌≤◌, ◌<◌, ◌≡◌, cond, List, [], ◌∷◌, Option, Result, Some, None, Ok, Err}
 use Rattle.formats.specs.declared.format.Format.{Format}
 use Rattle.formats.specs.Numbers.{numbers_of}
 use Rattle.refusals.specs.Refused.{pair_count}
-use Rattle.telegrams.specs.Telegram.{telegram_of}
+use Rattle.telegrams.specs.Telegram.{telegram_of, pair_with}
 use Rattle.conditions.specs.Conditions.{proper}
-use Rattle.lister.specs.declared.Listed.{Listed}
-use Rattle.lister.specs.declared.Listed.TheVariants.{Pair, NoMore, Refused}
-use Rattle.lister.specs.declared.Onward.{Onward}
-use Rattle.lister.specs.declared.Onward.TheVariants.{From, Ended}
 use Rattle.lister.specs.Listing.{next_of, just_after}
+use Rattle.telegrams.specs.declared.Pair.{Pair}
+use Rattle.lister.specs.declared.Listed.{Listed}
+use Rattle.refusals.specs.declared.Refusal.{Refusal}
 
 -- B and esb
 abbrev pub BAndEsb : Type 0
@@ -20,17 +19,17 @@ BAndEsb = ℕ × ℕ
 -- ---- what the calls give
 
 -- an answer, and what `rest` gives from just after it on
-abbrev pub then_on : (Onward → List BAndEsb) → Listed → List BAndEsb
-then_on rest (Pair format B esb) = (B, esb) ∷ rest (just_after B esb)
-then_on rest NoMore = []
-then_on rest (Refused r) = []
+abbrev pub then_on : (Option Pair → List BAndEsb) → Result (Option Listed) Refusal → List BAndEsb
+then_on rest (Ok (Some next)) = (next.pair.scrambling, next.pair.shaping) ∷ rest (just_after next.pair.scrambling next.pair.shaping)
+then_on rest (Ok None) = []
+then_on rest (Err r) = []
 
 -- the pairs that at most so many calls give, each with the output as the call before left it
-unfoldable pub listing : ℕ → List ℕ → List ℕ → Onward → List BAndEsb
+unfoldable pub listing : ℕ → List ℕ → List ℕ → Option Pair → List BAndEsb
 listing zero u out onward = []
-listing (suc calls) u out Ended = []
-listing (suc calls) u out (From B esb) =
-    let next = next_of u B esb out in
+listing (suc calls) u out None = []
+listing (suc calls) u out (Some onward) =
+    let next = next_of u onward.scrambling onward.shaping out in
     then_on (listing calls u next.output) next.answer
 
 -- ---- what they are to give
@@ -53,7 +52,7 @@ proper_pairs format u = proper_of format u (pairs_from 0 pair_count)
 
 -- as many calls as there are pairs are enough, and more change nothing
 pub record ListsAll (format : Format) (u out : List ℕ) : Type 0 where
-  pub all : (calls : ℕ) → pair_count ≤ calls → listing calls u out (From 0 0) ≡ proper_pairs format u
+  pub all : (calls : ℕ) → pair_count ≤ calls → listing calls u out (Some (pair_with 0 0)) ≡ proper_pairs format u
   -- and a listing that starts at B, esb gives those of the pairs from there on
   pub onward : (B esb : ℕ) → B < 4096 → esb < 1024 → (calls : ℕ) → pair_count ≤ calls
-      → let p = 1024 * B + esb in listing calls u out (From B esb) ≡ proper_of format u (pairs_from p (pair_count - p))
+      → let p = 1024 * B + esb in listing calls u out (Some (pair_with B esb)) ≡ proper_of format u (pairs_from p (pair_count - p))

@@ -2,18 +2,14 @@
 // the two numbers that the first two arguments give, B and esb (document 02, No. 11).
 #![tactic(auto)]
 
-use formats::format;
 use formats::format::Long;
-use maker::Made;
 use std::env::Env;
 use std::io;
-use texts::decimal::Decimal;
-use texts::reading::Progress;
 use texts::{decimal, front, input, output};
 
 // The number that the argument at this place is. One that is missing, or has more bytes than a number has digits, counts
 // as an empty text.
-fn argument(rt: &impl Env, place: usize) -> Decimal {
+fn argument(rt: &impl Env, place: usize) -> Option<u32> {
     let mut text = [0u8; decimal::DIGITS];
     let n = rt.arg(place, &mut text).unwrap_or(0);
     decimal::number_in(front(&text, n))
@@ -32,27 +28,24 @@ fn report(rt: &impl Print, block: &[u8], b: u32, esb: u32) -> io::Result<()> {
     let mut telegram = [0u8; Long::N];
     let answer = maker::make(block, b as u64, esb as u64, &mut telegram);
     match answer {
-        Made::Telegram(format) => {
-            output::print_format(rt, format)?;
-            output::print_field(rt, b"sb", b as u64)?;
-            output::print_field(rt, b"esb", esb as u64)?;
-            output::end_line(rt)?;
-            output::print_bits(rt, front(&telegram, format::telegram_bits(format)))
+        Ok(format) => {
+            println!(rt; "{format} sb {b} esb {esb}")?;
+            output::print_bits(rt, front(&telegram, format.telegram_bits()))
         }
-        Made::Refused(refusal) => output::print_refused(rt, refusal),
+        Err(refusal) => output::print_refused(rt, refusal),
     }
 }
 
 fn main(rt: HostRuntime) -> io::Result<()> {
     output::print_header(&rt, b"make")?;
-    let Decimal::Number(b) = argument(&rt, 1) else {
+    let Some(b) = argument(&rt, 1) else {
         return print_bad_argument(&rt, "the first argument must be B");
     };
-    let Decimal::Number(esb) = argument(&rt, 2) else {
+    let Some(esb) = argument(&rt, 2) else {
         return print_bad_argument(&rt, "the second argument must be esb");
     };
     let mut block = [0u8; Long::M];
-    let Progress::Count(count) = input::read_text(&rt, &mut block) else {
+    let Ok(count) = input::read_text(&rt, &mut block) else {
         return output::print_bad(&rt);
     };
     output::print_count(&rt, count)?;

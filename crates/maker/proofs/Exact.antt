@@ -24,16 +24,15 @@ use Rattle.telegrams.specs.Worded.{IsFirstBad}
 use Rattle.telegrams.proofs.FirstBad.{first_bad_lem, first_bad_after}
 use Rattle.telegrams.proofs.Made.{length_made, words_made, scrambling_made, shaping_made, user_bits_made}
 use Rattle.telegrams.proofs.WellFormed.{parts, remade, made_by_words}
-use Rattle.maker.specs.declared.Made.{Made}
-use Rattle.maker.specs.declared.Made.TheVariants.{Telegram, Refused}
 use Rattle.maker.specs.Making.{format_of, make_table, wrote, make_of}
 use Rattle.maker.specs.Makes.{InOrder, Carries, MakeAnswers, MakesExactly}
 use Rattle.maker.proofs.Steps.{word_refused, telegram_made, accepted_in_order, refused_in_order, said, by_verdict, tells}
+use Rattle.std.specs.Prelude.{Result, Ok, Err}
 
 -- only a refusal tells that it is one
-only : (a : Made) (r : Refusal) → said a ≡ refused r → a ≡ Refused r
-only (Refused q) r e = cc
-only (Telegram format) r e = clash cc
+only : (a : Result Format Refusal) (r : Refusal) → said a ≡ refused r → a ≡ Err r
+only (Err q) r e = cc
+only (Ok format) r e = clash cc
 
 module _ (u : List ℕ) (B esb : ℕ) (out : List ℕ) where
   -- ---- a telegram is made
@@ -44,12 +43,12 @@ module _ (u : List ℕ) (B esb : ℕ) (out : List ℕ) where
   words_formed format = made_by_words (numbers_of format) (facts_of format) (sizes_of format) u B esb
 
   -- where one is, the input is in order, the telegram well-formed, and it is what was written
-  pub made : (format : Format) → (make_of u B esb out).answer ≡ Telegram format → let F = numbers_of format in
+  pub made : (format : Format) → (make_of u B esb out).answer ≡ Ok format → let F = numbers_of format in
       (InOrder format u B esb out × T (well_formed F (telegram_of F u B esb))) × (make_of u B esb out ≡ wrote format (telegram_of F u B esb) out)
   made format e =
       let v = sym (tells u B esb out) ∙ ap said e in
       let whole = by_verdict u B esb out accepted v in
-      let answers = sym (ap (λ (x : Outcome Made). x.answer) whole) ∙ e in
+      let answers = sym (ap (λ (x : Outcome (Result Format Refusal)). x.answer) whole) ∙ e in
       let picked : format_of u ≡ format = cc in
       let (in_order, words) = accepted_in_order (format_of u) u B esb out v in
       subst (λ (f : Format). let F = numbers_of f in
@@ -84,8 +83,8 @@ module _ (u : List ℕ) (B esb : ℕ) (out : List ℕ) where
   gives_forth : (format : Format) (b : List ℕ) → make_of u B esb out ≡ wrote format b out → InOrder format u B esb out × Carries format b u B esb
   gives_forth format b e =
       let F = numbers_of format in
-      let ((in_order, formed), whole) = made format (ap (λ (x : Outcome Made). x.answer) e) in
-      let outputs = ap (λ (x : Outcome Made). x.output) (sym whole ∙ e) in
+      let ((in_order, formed), whole) = made format (ap (λ (x : Outcome (Result Format Refusal)). x.answer) e) in
+      let outputs = ap (λ (x : Outcome (Result Format Refusal)). x.output) (sym whole ∙ e) in
       let same : telegram_of F u B esb ≡ b = fronts_same (telegram_of F u B esb) b (drop F.n out) outputs in
       (in_order, subst (λ (t : List ℕ). Carries format t u B esb) same (carries format in_order formed))
 
@@ -97,17 +96,17 @@ module _ (u : List ℕ) (B esb : ℕ) (out : List ℕ) where
 
   -- ---- the bad word that refusal 9 carries
 
-  names : (bad : BadWord) → ((make_of u B esb out).answer ≡ Refused (NotWord bad))
+  names : (bad : BadWord) → ((make_of u B esb out).answer ≡ Err (NotWord bad))
       ↔ (let F = numbers_of (format_of u) in InOrder (format_of u) u B esb out × IsFirstBad F.words (telegram_of F u B esb) bad)
   names bad =
       let F = numbers_of (format_of u) in (
         λ e. refused_in_order (format_of u) u B esb out bad (sym (tells u B esb out) ∙ ap said e),
         λ p.
             let (some, is) = (first_bad_lem (telegram_of F u B esb) F.words bad).1 p.1 in
-            ap (λ (x : Outcome Made). x.answer) (word_refused (format_of u) u B esb out p.0 some) ∙ ap (λ (x : BadWord). Refused (NotWord x)) is,
+            ap (λ (x : Outcome (Result Format Refusal)). x.answer) (word_refused (format_of u) u B esb out p.0 some) ∙ ap (λ (x : BadWord). Err (NotWord x)) is,
       )
 
-  last_ten_lem : (bad : BadWord) → (make_of u B esb out).answer ≡ Refused (NotWord bad) → blocks (numbers_of (format_of u)) ≤ bad.index
+  last_ten_lem : (bad : BadWord) → (make_of u B esb out).answer ≡ Err (NotWord bad) → blocks (numbers_of (format_of u)) ≤ bad.index
   last_ten_lem bad e =
       let format = format_of u in
       let F = numbers_of format in
@@ -115,7 +114,7 @@ module _ (u : List ℕ) (B esb : ℕ) (out : List ℕ) where
 
   -- ---- all of it
 
-  front-over : (format : Format) → (make_of u B esb out).answer ≡ Telegram format
+  front-over : (format : Format) → (make_of u B esb out).answer ≡ Ok format
       → FrontWritten (numbers_of format).n out (make_of u B esb out).output
   front-over format e =
       let F = numbers_of format in
@@ -126,17 +125,17 @@ module _ (u : List ℕ) (B esb : ℕ) (out : List ℕ) where
   make_answers =
       record {
         refuses =
-            refuses_in_order Refused said (λ r. refl) only (make_table (format_of u) (length out) u B esb) (make_of u B esb out).answer
+            refuses_in_order Err said (λ r. refl) only (make_table (format_of u) (length out) u B esb) (make_of u B esb out).answer
             (tells u B esb out);
         names = names;
         last_ten = last_ten_lem;
-        keeps = λ r e. ap (λ (x : Outcome Made). x.output) (by_verdict u B esb out (refused r) (sym (tells u B esb out) ∙ ap said e));
+        keeps = λ r e. ap (λ (x : Outcome (Result Format Refusal)). x.output) (by_verdict u B esb out (refused r) (sym (tells u B esb out) ∙ ap said e));
         writes = front-over;
       }
 
   pub makes_exactly : MakesExactly u B esb out
   makes_exactly =
       record {
-        succeeds = λ format. (λ e. (made format e).0, λ p. ap (λ (x : Outcome Made). x.answer) (makes format p.0 p.1));
+        succeeds = λ format. (λ e. (made format e).0, λ p. ap (λ (x : Outcome (Result Format Refusal)). x.answer) (makes format p.0 p.1));
         gives = λ format b. (gives_forth format b, λ p. gives_back format b p.0 p.1);
       }

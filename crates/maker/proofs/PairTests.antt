@@ -17,11 +17,11 @@ use Rattle.refusals.specs.declared.Refusal.TheVariants.{Length, NotBit, PairTooL
 use Rattle.refusals.specs.Table.{Verdict, refused, accepted, verdict}
 use Rattle.refusals.proofs.Table.{Decides, passed, failed, all_passed, NoRow, accepted_no_row}
 use Rattle.telegrams.specs.Telegram.{is_pair}
-use Rattle.telegrams.proofs.Pair.{pair_below}
-use Rattle.maker.specs.declared.Tested.TheVariants.{Clean, Refused}
+use Rattle.telegrams.proofs.IsPair.{pair_below}
 use Rattle.maker.specs.Making.{format_of}
 use Rattle.maker.specs.Makes.{InOrder}
 use Rattle.maker.specs.PairTests.{pair_table, tested_as, tested_of}
+use Rattle.std.specs.Prelude.{Ok, Err}
 
 -- ---- the rows
 
@@ -32,7 +32,7 @@ module _ (format : Format) (u : List ℕ) (B esb room : ℕ) where
   decided v e d = rw (← e, d.verdict_is) refl
 
   -- the length is not the format's
-  pub length_refused : format ≡ format_of u → (length u ≡ (numbers_of format).m → ⊥) → Refused Length ≡ tested_of u B esb room
+  pub length_refused : format ≡ format_of u → (length u ≡ (numbers_of format).m → ⊥) → Err Length ≡ tested_of u B esb room
   unfolding pair_table
   length_refused e h = decided (refused Length) e (failed (ne_eqb (length u) (numbers_of format).m h))
 
@@ -45,19 +45,19 @@ module _ (format : Format) (u : List ℕ) (B esb room : ℕ) where
     sized = eq-eqb (length u) (numbers_of format).m size
 
     -- a byte other than 0 or 1
-    pub bits_refused : all_bits u ≡ false → Refused NotBit ≡ tested_of u B esb room
+    pub bits_refused : all_bits u ≡ false → Err NotBit ≡ tested_of u B esb room
     unfolding pair_table
     bits_refused e = decided (refused NotBit) picked (passed sized (failed e))
 
     module _ (bits : all_bits u ≡ true) where
       -- B or esb too large
-      pub pair_refused : is_pair B esb ≡ false → Refused PairTooLarge ≡ tested_of u B esb room
+      pub pair_refused : is_pair B esb ≡ false → Err PairTooLarge ≡ tested_of u B esb room
       unfolding pair_table
       pair_refused e = decided (refused PairTooLarge) picked (passed sized (passed bits (failed e)))
 
       module _ (pair : is_pair B esb ≡ true) where
         -- the output is too short
-        pub room_refused : room < (numbers_of format).n → Refused OutputShort ≡ tested_of u B esb room
+        pub room_refused : room < (numbers_of format).n → Err OutputShort ≡ tested_of u B esb room
         unfolding pair_table
         room_refused h =
             decided (refused OutputShort) picked (passed sized (passed bits (passed pair (failed (lt-leb (numbers_of format).n room h)))))
@@ -67,26 +67,26 @@ module _ (format : Format) (u : List ℕ) (B esb room : ℕ) where
         all_pass h = passed sized (passed bits (passed pair (passed (le-leb (numbers_of format).n room h) all_passed)))
 
         -- all is in order
-        pub tests_clean : (numbers_of format).n ≤ room → Clean format ≡ tested_of u B esb room
+        pub tests_clean : (numbers_of format).n ≤ room → Ok format ≡ tested_of u B esb room
         tests_clean h = decided accepted picked (all_pass h)
 
 -- ---- what an answer tells
 
 module _ (u : List ℕ) (B esb room : ℕ) where
-  pub tested_refused : (r : Refusal) → tested_of u B esb room ≡ Refused r → verdict (pair_table (format_of u) room u B esb) ≡ refused r
+  pub tested_refused : (r : Refusal) → tested_of u B esb room ≡ Err r → verdict (pair_table (format_of u) room u B esb) ≡ refused r
   unfolding tested_of
   tested_refused r e = go (verdict (pair_table (format_of u) room u B esb)) e
     where
-      go : (v : Verdict Refusal) → tested_as (format_of u) v ≡ Refused r → v ≡ refused r
+      go : (v : Verdict Refusal) → tested_as (format_of u) v ≡ Err r → v ≡ refused r
       go (refused q) e = cc
       go accepted e = clash cc
 
-  pub tested_clean : (format : Format) → tested_of u B esb room ≡ Clean format
+  pub tested_clean : (format : Format) → tested_of u B esb room ≡ Ok format
       → (format_of u ≡ format) × (verdict (pair_table (format_of u) room u B esb) ≡ accepted)
   unfolding tested_of
   tested_clean format e = go (verdict (pair_table (format_of u) room u B esb)) e
     where
-      go : (v : Verdict Refusal) → tested_as (format_of u) v ≡ Clean format → (format_of u ≡ format) × (v ≡ accepted)
+      go : (v : Verdict Refusal) → tested_as (format_of u) v ≡ Ok format → (format_of u ≡ format) × (v ≡ accepted)
       go (refused q) e = clash cc
       go accepted e = (cc, refl)
 
@@ -118,7 +118,7 @@ module _ (format : Format) (u : List ℕ) (B esb : ℕ) (out : List ℕ) where
       (is_true (is_pair B esb) ((pair_below B esb).1 (h.scrambling, h.shaping))) h.room).verdict_is
 
 -- the format that the tests answer with is one for which all is in order
-pub clean_in_order : (format : Format) (u : List ℕ) (B esb : ℕ) (out : List ℕ) → tested_of u B esb (length out) ≡ Clean format → InOrder format u B esb out
+pub clean_in_order : (format : Format) (u : List ℕ) (B esb : ℕ) (out : List ℕ) → tested_of u B esb (length out) ≡ Ok format → InOrder format u B esb out
 clean_in_order format u B esb out e =
     let (is, accepts) = tested_clean u B esb (length out) format e in
     subst (λ (f : Format). InOrder f u B esb out) is (accepted_in_order (format_of u) u B esb out accepts)

@@ -20,12 +20,11 @@ use Rattle.telegrams.specs.Telegram.{telegram_of}
 use Rattle.telegrams.specs.Fields.{all_words}
 use Rattle.telegrams.specs.Worded.{bad_word, IsFirstBad}
 use Rattle.telegrams.proofs.FirstBad.{first_bad_lem}
-use Rattle.maker.specs.declared.Made.{Made}
-use Rattle.maker.specs.declared.Made.TheVariants.{Telegram, Refused}
 use Rattle.maker.specs.Making.{format_of, make_table, wrote, make_as, make_of}
 use Rattle.maker.specs.Makes.{InOrder}
 use Rattle.maker.specs.PairTests.{pair_table}
 use Rattle.maker.proofs.PairTests.{picked, rows_in_order, in_order_accepted}
+use Rattle.std.specs.Prelude.{Result, Ok, Err}
 
 -- ---- the table
 
@@ -44,14 +43,14 @@ tests_then_words format room u B esb = verdict_more (pair_table format room u B 
 module _ (format : Format) (u : List ℕ) (B esb : ℕ) (out : List ℕ) where
   -- the format is that which the length picks
   decided : (v : Verdict Refusal) → format ≡ format_of u → verdict (make_table format (length out) u B esb) ≡ v
-      → make_of u B esb out ≡ outcome_by Refused out (wrote format (telegram_of (numbers_of format) u B esb) out) v
+      → make_of u B esb out ≡ outcome_by Err out (wrote format (telegram_of (numbers_of format) u B esb) out) v
   unfolding make_of make_as
   decided v e d = rw (← e, d)
 
   module _ (in_order : InOrder format u B esb out) where
     -- the tests pass
     past : (v : Verdict Refusal) → Decides (word_row format u B esb ∷ []) v
-        → make_of u B esb out ≡ outcome_by Refused out (wrote format (telegram_of (numbers_of format) u B esb) out) v
+        → make_of u B esb out ≡ outcome_by Err out (wrote format (telegram_of (numbers_of format) u B esb) out) v
     past v d =
         decided v (picked format u B esb (length out) in_order.size)
         (tests_then_words format (length out) u B esb
@@ -60,7 +59,7 @@ module _ (format : Format) (u : List ℕ) (B esb : ℕ) (out : List ℕ) where
 
     -- a word is not in the table
     pub word_refused : let F = numbers_of format in
-        all_words F.words (telegram_of F u B esb) ≡ false → make_of u B esb out ≡ outcome (Refused (NotWord (bad_word F.words (telegram_of F u B esb)))) out
+        all_words F.words (telegram_of F u B esb) ≡ false → make_of u B esb out ≡ outcome (Err (NotWord (bad_word F.words (telegram_of F u B esb)))) out
     word_refused e = past _ (failed e)
 
     -- all are
@@ -96,30 +95,30 @@ module _ (format : Format) (u : List ℕ) (B esb : ℕ) (out : List ℕ) where
       (rows_in_order format u B esb out size bits pair room, (first_bad_lem (telegram_of F u B esb) F.words bad).0 (not-true words (is_true (not words) some), cc))
 
 -- the verdict that an answer tells
-abbrev pub said : Made → Verdict Refusal
-said (Refused r) = refused r
-said (Telegram format) = accepted
+abbrev pub said : Result Format Refusal → Verdict Refusal
+said (Err r) = refused r
+said (Ok format) = accepted
 
 module _ (u : List ℕ) (B esb : ℕ) (out : List ℕ) where
   abbrev table : Verdict Refusal
   table = verdict (make_table (format_of u) (length out) u B esb)
 
-  abbrev written : Outcome Made
+  abbrev written : Outcome (Result Format Refusal)
   written = wrote (format_of u) (telegram_of (numbers_of (format_of u)) u B esb) out
 
   -- the outcome by the verdict
-  pub by_verdict : (v : Verdict Refusal) → table ≡ v → make_of u B esb out ≡ outcome_by Refused out written v
+  pub by_verdict : (v : Verdict Refusal) → table ≡ v → make_of u B esb out ≡ outcome_by Err out written v
   unfolding make_of make_as
   by_verdict v e = rw e
 
   -- a refusal of the tests is that of the call
-  pub tests_refuse : (r : Refusal) → verdict (pair_table (format_of u) (length out) u B esb) ≡ refused r → make_of u B esb out ≡ outcome (Refused r) out
+  pub tests_refuse : (r : Refusal) → verdict (pair_table (format_of u) (length out) u B esb) ≡ refused r → make_of u B esb out ≡ outcome (Err r) out
   tests_refuse r e =
       by_verdict (refused r)
       (tests_then_words (format_of u) (length out) u B esb ∙ ap (answer_by refused (verdict (word_row (format_of u) u B esb ∷ []))) e)
 
   pub tells : said (make_of u B esb out).answer ≡ table
   tells =
-      ap (λ (x : Outcome Made). said x.answer) (by_verdict table refl)
-      ∙ ap said (answer_by_lem Refused out written table)
-      ∙ answer_said Refused said (λ r. refl) written.answer refl table
+      ap (λ (x : Outcome (Result Format Refusal)). said x.answer) (by_verdict table refl)
+      ∙ ap said (answer_by_lem Err out written table)
+      ∙ answer_said Err said (λ r. refl) written.answer refl table

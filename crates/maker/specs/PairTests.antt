@@ -1,6 +1,6 @@
 -- The tests of a call that is given a block, a pair and an output (document 02, No. 9 and No. 11): refusals 1, 2, 27 and 3, in this order.
 -- Assumes nothing.
-use Rattle.std.specs.Prelude.{ℕ, not, List, [], ◌∷◌, eqb, leb, length}
+use Rattle.std.specs.Prelude.{ℕ, not, List, [], ◌∷◌, eqb, leb, length, Result, Ok, Err}
 use Rattle.bits.specs.Bits.{all_bits}
 use Rattle.formats.specs.declared.format.Format.{Format}
 use Rattle.formats.specs.Numbers.{numbers_of}
@@ -8,8 +8,6 @@ use Rattle.refusals.specs.declared.Refusal.{Refusal}
 use Rattle.refusals.specs.declared.Refusal.TheVariants.{Length, NotBit, PairTooLarge, OutputShort}
 use Rattle.refusals.specs.Table.{Row, ◌when◌, Verdict, refused, accepted, verdict}
 use Rattle.telegrams.specs.Telegram.{is_pair}
-use Rattle.maker.specs.declared.Tested.{Tested}
-use Rattle.maker.specs.declared.Tested.TheVariants.{Clean, Refused}
 use Rattle.maker.specs.Making.{format_of}
 
 -- "A start with B over 4095 or esb over 1023 is refused with 27, after 1 and 2 and before 3": when each applies to a block that is to be
@@ -24,9 +22,9 @@ pair_table format room u B esb =
     ∷ []
 
 -- the first refusal that applies, or the format
-abbrev pub tested_as : Format → Verdict Refusal → Tested
-tested_as format (refused r) = Refused r
-tested_as format accepted = Clean format
+abbrev pub tested_as : Format → Verdict Refusal → Result Format Refusal
+tested_as format (refused r) = Err r
+tested_as format accepted = Ok format
 
-unfoldable pub tested_of : List ℕ → ℕ → ℕ → ℕ → Tested
+unfoldable pub tested_of : List ℕ → ℕ → ℕ → ℕ → Result Format Refusal
 tested_of u B esb room = tested_as (format_of u) (verdict (pair_table (format_of u) room u B esb))

@@ -14,9 +14,9 @@ use Rattle.formats.specs.Numbers.{numbers_of}
 use Rattle.refusals.specs.Refused.{pair_count}
 use Rattle.telegrams.specs.Telegram.{shaped_data}
 use Rattle.encoder.specs.Encoding.{passes, first_pair}
-use Rattle.quick_encoder.specs.declared.search.Shaping.TheVariants.{At, Nothing}
 use Rattle.quick_encoder.specs.PairFrom.{pair_from, completes, shaping_from, shaping_at}
 use Rattle.quick_encoder.proofs.Completing.{pair_completes}
+use Rattle.std.specs.Prelude.{Some, None}
 
 -- ---- the search for an esb
 
@@ -32,11 +32,11 @@ module _ (format : Format) (d : List ℕ) (B : ℕ) where
   shaping-none esb h fail = missing_first (completes format d B) esb (1024 - esb) (λ e from below. fail e (omega arith))
 
 -- the answer, as the search gives it
-pub shaping_at_lem : (first : First) (esb : ℕ) → shaping_at first ≡ At esb → first ≡ found esb
+pub shaping_at_lem : (first : First) (esb : ℕ) → shaping_at first ≡ Some esb → first ≡ found esb
 shaping_at_lem (found e) esb h = cc
 shaping_at_lem none esb h = clash cc
 
-pub shaping_nothing : (first : First) → shaping_at first ≡ Nothing → first ≡ none
+pub shaping_nothing : (first : First) → shaping_at first ≡ None → first ≡ none
 shaping_nothing (found e) h = clash cc
 shaping_nothing none h = refl
 

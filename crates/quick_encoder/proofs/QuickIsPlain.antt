@@ -7,7 +7,7 @@ use borrow.Fn.Kinds.{ended_of}
 use borrow.Fn.World.{ArgsD, ResD}
 use denote.Triple.Clauses.{AtExit}
 use Rattle.refusals.specs.Outcome.{Outcome}
-use Rattle.encoder.specs.declared.Encoded.{Encoded}
+use Rattle.telegrams.specs.Telegram.{pair_with}
 use Rattle.encoder.specs.Searched.{pair_of}
 use Rattle.encoder.specs.contracts.encode as plain
 use Rattle.encoder.proofs.encode.Kinds as plain-kinds
@@ -18,6 +18,9 @@ use Rattle.encoder.proofs.search.first_pair.Reads as first-pair-reads
 use Rattle.quick_encoder.proofs.encode.Reads as quick-reads
 use Rattle.quick_encoder.proofs.search.pair_from.Reads as pair-from-reads
 use Rattle.quick_encoder.proofs.OneScrambling.{from_the_first}
+use Rattle.std.specs.Prelude.{Result}
+use Rattle.encoder.specs.declared.Encoded.{Encoded}
+use Rattle.refusals.specs.declared.Refusal.{Refusal}
 
 -- called on one block and outputs that hold the same, `encoder::encode` answers r and `quick_encoder::encode` r', and the outputs are then s and s':
 -- the answers are equal, with the pair and its count, and so are all bytes of the outputs
@@ -26,10 +29,10 @@ pub quick_is_plain : (κs : Lfts 2) (block-output : ArgsD plain.signature κs) (
     → plain-reads.Post κs block-output r s → quick-reads.Post κs block-output r' s' → (r ≡ r') × (s.1.0.now ≡ s'.1.0.now)
 quick_is_plain κs block-output r r' s s' plain quick =
     let both = sym plain ∙ quick in
-    (ap (λ (y : Outcome Encoded). y.answer) both, ap (λ (y : Outcome Encoded). y.output) both)
+    (ap (λ (y : Outcome (Result Encoded Refusal)). y.answer) both, ap (λ (y : Outcome (Result Encoded Refusal)). y.output) both)
 
 -- and from the pair 0, 0 on `search::pair_from` finds what the plain `search::first_pair` finds
 pub same_search : (κs : Lfts 1) (a : ArgsD first-pair.signature κs) (r r' : ResD first-pair.signature κs)
     (s : AtExit (ended_of 1 first-pair-kinds.ps first-pair-kinds.r) κs)
-    → first-pair-reads.Post κs a r s → pair-from-reads.Post κs (a.0, (a.1.0, (0, (0, tt)))) r' (s.0, (s.1.0, (0, (0, tt)))) → r ≡ r'
+    → first-pair-reads.Post κs a r s → pair-from-reads.Post κs (a.0, (a.1.0, (pair_with 0 0, tt))) r' (s.0, (s.1.0, (pair_with 0 0, tt))) → r ≡ r'
 same_search κs a r r' s plain quick = plain ∙ sym (quick ∙ ap pair_of (from_the_first a.0 a.1.0.now))

@@ -1,6 +1,6 @@
 -- The first proper pair from a given one on, in counting order (document 02, No. 7 and No. 9), and for one B the first esb.
 -- Assumes nothing.
-use Rattle.std.specs.Prelude.{ℕ, ◌-◌, Bool, ◌&&◌, List, ◌++◌}
+use Rattle.std.specs.Prelude.{ℕ, ◌-◌, Bool, ◌&&◌, List, ◌++◌, Option, Some, None}
 use Rattle.bits.specs.Search.{First, found, none, first_of}
 use Rattle.formats.specs.declared.format.Format.{Format}
 use Rattle.formats.specs.Numbers.{numbers_of}
@@ -8,8 +8,6 @@ use Rattle.refusals.specs.Refused.{pair_count}
 use Rattle.conditions.specs.Conditions.{off_step_within, not_repeating, thinned_within}
 use Rattle.encoder.specs.Encoding.{passes}
 use Rattle.encoder.specs.Searched.{made_proper}
-use Rattle.quick_encoder.specs.declared.search.Shaping.{Shaping}
-use Rattle.quick_encoder.specs.declared.search.Shaping.TheVariants.{At, Nothing}
 use Rattle.quick_encoder.specs.Tail.{tail_of}
 
 -- at place p or after it
@@ -30,6 +28,6 @@ completes format d B esb = made_proper format (d ++ tail_of (numbers_of format) 
 unfoldable pub shaping_from : Format → List ℕ → ℕ → ℕ → First
 shaping_from format d B esb = first_of (completes format d B) esb (1024 - esb)
 
-abbrev pub shaping_at : First → Shaping
-shaping_at (found esb) = At esb
-shaping_at none = Nothing
+abbrev pub shaping_at : First → Option ℕ
+shaping_at (found esb) = Some esb
+shaping_at none = None

@@ -14,11 +14,8 @@ pub fn within(format: Format, d: &[u8]) -> bool
     ensures { result ≡ data_within format d.now }
 {
     let words = d.len() / 11 - 1;
-    for p in 1..11 {
+    (1..11).all(|p| {
         let limit = off_step::limit_at(format, p);
-        if !run::none_over(d, p, words - limit, limit) {
-            return false;
-        }
-    }
-    true
+        run::none_over(d, p, words - limit, limit)
+    })
 }

@@ -5,7 +5,9 @@ ghost use Rattle.std.specs.Prelude.{◌≡◌};
 ghost use Rattle.refusals.specs.Outcome.{outcome};
 ghost use Rattle.encoder.specs.Encoding.{encode_of};
 
-use encoder::{Encoded, Tested};
+use encoder::Encoded;
+use refusals::Refusal;
+use telegrams::{Block, Pair};
 
 mod change;
 mod data;
@@ -13,16 +15,17 @@ pub mod search;
 mod tail;
 
 // The block's telegram over the front of output, with the first pair that gives a proper one. The lowest refusal that applies is given, and a
-// refusal keeps every byte of output.
-pub fn encode(block: &[u8], output: &mut [u8]) -> Encoded
+// refusal keeps every byte of output. This is encoder::encode over the search of this crate: what both share is in encoder, and one function of
+// both over the search, with clauses on what it finds, would be longer.
+pub fn encode(block: &[u8], output: &mut [u8]) -> Result<Encoded, Refusal>
     ensures { encode_of block.now output.old ≡ outcome result output.new }
 {
-    let tested = encoder::test(block, output.len());
-    match tested {
-        Tested::Refused(refusal) => Encoded::Refused(refusal),
-        Tested::Clean(format) => {
-            let first = search::pair_from(format, block, 0, 0);
-            encoder::write_found(format, block, first, output)
-        }
-    }
+    let format = encoder::test(block, output.len())?;
+    let least = Pair {
+        scrambling: 0,
+        shaping: 0,
+    };
+    let first = search::pair_from(format, block, least);
+    let bits = block;
+    encoder::write_found(Block { format, bits }, first, output)
 }

@@ -1,5 +1,7 @@
 // The quick search for the first pair, from a given one on, whose telegram is proper (document 02, No. 7). A B is dropped where the word with
 // the control bits or the shaped data alone breaks a rule. From esb to esb the last ten words are added to, and tested before anything is written.
+// The buffer that a telegram is written in is a plain slice with its format beside it: a type that lends it would have a ghost field beside a
+// `&mut`, which the toolchain does not prove.
 ghost use Rattle.std.specs.Prelude.{◌≡◌, ◌++◌, ◌+◌, ◌-◌, ◌*◌, ◌<◌, ◌≤◌, T, length, take};
 ghost use Rattle.bits.specs.Bits.{all_bits};
 ghost use Rattle.formats.specs.Numbers.{numbers_of, blocks};
@@ -11,36 +13,30 @@ ghost use Rattle.quick_encoder.specs.PairFrom.{pair_from, meets_conditions, shap
 
 use crate::tail::Tail;
 use crate::{change, data, tail};
-use encoder::search::Search;
-use formats::format;
 use formats::format::{Format, Long};
-use telegrams::making;
-
-// The extra shaping bits of the first telegram that passes.
-#[derive(Clone, Copy)]
-pub enum Shaping {
-    At(u16),
-    Nothing,
-}
+use telegrams::{Block, Pair, Telegram, making};
 
 // Whether the telegram that is completed by these 110 bits meets conditions 2, 3 and 4. It is written into the buffer.
 fn meets_conditions(format: Format, tail: Tail, telegram: &mut [u8]) -> bool
     requires format_in_bounds { (numbers_of format).n ≤ length telegram.old }
-    requires t { T (all_bits (take ((numbers_of format).n - 110) telegram.old)) }
+    requires are_bits { T (all_bits (take ((numbers_of format).n - 110) telegram.old)) }
     ensures value { result ≡ meets_conditions format (take ((numbers_of format).n - 110) telegram.old ++ tail_bits tail) }
     ensures telegram_unchanged { take ((numbers_of format).n - 110) telegram.new ≡ take ((numbers_of format).n - 110) telegram.old }
 {
-    let n = format::telegram_bits(format);
+    let n = format.telegram_bits();
     let at = n - 110;
     tail::write_tail(tail, &mut telegram[at..]);
-    conditions::conditions(format, &telegram[..n])
+    conditions::conditions(Telegram {
+        format,
+        bits: &telegram[..n],
+    })
 }
 
 // Whether the telegram that is completed by these 110 bits passes: their words are tested first, and only where all are in the table is it
 // written into the buffer, for the conditions.
 fn passes(format: Format, tail: Tail, telegram: &mut [u8]) -> bool
     requires format_in_bounds { (numbers_of format).n ≤ length telegram.old }
-    requires t { T (all_bits (take ((numbers_of format).n - 110) telegram.old)) }
+    requires are_bits { T (all_bits (take ((numbers_of format).n - 110) telegram.old)) }
     ensures value { result ≡ made_proper format (take ((numbers_of format).n - 110) telegram.old ++ tail_bits tail) }
     ensures telegram_unchanged { take ((numbers_of format).n - 110) telegram.new ≡ take ((numbers_of format).n - 110) telegram.old }
 {
@@ -50,79 +46,83 @@ fn passes(format: Format, tail: Tail, telegram: &mut [u8]) -> bool
     meets_conditions(format, tail, telegram)
 }
 
-// The last 110 bits of the telegram that the shaped data in front of the buffer, b and esb make. The settings are written.
-fn first_tail(format: Format, b: u16, esb: u16, telegram: &mut [u8]) -> Tail
+// The last 110 bits of the telegram that the shaped data in front of the buffer and the pair make. The settings are written.
+fn first_tail(format: Format, pair: Pair, telegram: &mut [u8]) -> Tail
     requires format_in_bounds { (numbers_of format).n ≤ length telegram.old }
-    requires t { T (all_bits (take ((numbers_of format).n - 110) telegram.old)) }
-    requires b_bound { (b < 4096) × (esb < 1024) }
-    ensures result_value { tail_bits result ≡ tail_of (numbers_of format) (take ((numbers_of format).n - 110) telegram.old) b esb }
+    requires are_bits { T (all_bits (take ((numbers_of format).n - 110) telegram.old)) }
+    requires pair_bound { (pair.scrambling < 4096) × (pair.shaping < 1024) }
+    ensures result_value { tail_bits result ≡ tail_of (numbers_of format) (take ((numbers_of format).n - 110) telegram.old) pair.scrambling pair.shaping }
     ensures telegram_unchanged { take ((numbers_of format).n - 110) telegram.new ≡ take ((numbers_of format).n - 110) telegram.old }
 {
-    let check = making::settle(format, b, esb, telegram);
-    tail::tail_of(b, esb, check)
+    let check = making::settle(format, pair, telegram);
+    tail::tail_of(pair, check)
 }
 
-// The first esb, from the given one on, with which the shaped data in front of the buffer and b make a telegram that passes.
-fn first_shaping(format: Format, b: u16, esb: u16, telegram: &mut [u8]) -> Shaping
+// The first esb, from the pair's on, with which the shaped data in front of the buffer and the pair's b make a telegram that passes.
+fn first_shaping(format: Format, pair: Pair, telegram: &mut [u8]) -> Option<u16>
     requires format_in_bounds { (numbers_of format).n ≤ length telegram.old }
-    requires t { T (all_bits (take ((numbers_of format).n - 110) telegram.old)) }
-    requires b_bound { (b < 4096) × (esb < 1024) }
-    ensures { result ≡ shaping_at (shaping_from format (take ((numbers_of format).n - 110) telegram.old) b esb) }
+    requires are_bits { T (all_bits (take ((numbers_of format).n - 110) telegram.old)) }
+    requires pair_bound { (pair.scrambling < 4096) × (pair.shaping < 1024) }
+    ensures { result ≡ shaping_at (shaping_from format (take ((numbers_of format).n - 110) telegram.old) pair.scrambling pair.shaping) }
 {
-    let mut tail = first_tail(format, b, esb, telegram);
-    let mut e = esb;
-    while e < 1024 {
+    let mut tail = first_tail(format, pair, telegram);
+    for shaping in pair.shaping..1024 {
         if passes(format, tail, telegram) {
-            return Shaping::At(e);
+            return Some(shaping);
         }
-        tail = change::next(format, tail, e);
-        e += 1;
+        tail = change::next(format, tail, shaping);
     }
-    Shaping::Nothing
+    None
 }
 
-// The same for the shaped data that b makes of a block with its sum; none where a rule is broken whatever esb is.
-fn shaping_for(format: Format, summed: &[u8], b: u16, esb: u16, telegram: &mut [u8]) -> Shaping
-    requires t { T (all_bits summed.now) × (length summed.now ≡ (numbers_of format).m) }
-    requires format_in_bounds { (numbers_of format).n ≤ length telegram.old }
-    requires b_bound { (b < 4096) × (esb < 1024) }
-    ensures { result ≡ shaping_at (shaping_from format (shaped (blocks (numbers_of format)) (scrambled b summed.now)) b esb) }
+// The same for the shaped data that the pair's b makes of a block with its sum; none where a rule is broken whatever esb is.
+fn shaping_for(summed: Block<'_>, pair: Pair, telegram: &mut [u8]) -> Option<u16>
+    requires room { (numbers_of summed.format).n ≤ length telegram.old }
+    requires pair_bound { (pair.scrambling < 4096) × (pair.shaping < 1024) }
+    ensures { result ≡ shaping_at (shaping_from summed.entry.format (shaped (blocks (numbers_of summed.entry.format)) (scrambled pair.scrambling summed.entry.bits.now)) pair.scrambling pair.shaping) }
 {
-    if !words::in_table(256 + b / 16) {
-        return Shaping::Nothing;
+    if !words::in_table(256 + pair.scrambling / 16) {
+        return None;
     }
-    making::write_shaped_data(format, summed, b, telegram);
-    let n = format::telegram_bits(format);
+    making::write_shaped_data(summed, pair.scrambling, telegram);
+    let format = summed.format;
+    let n = format.telegram_bits();
     let at = n - 110;
     if !data::within(format, &telegram[..at]) {
-        return Shaping::Nothing;
+        return None;
     }
-    first_shaping(format, b, esb, telegram)
+    first_shaping(format, pair, telegram)
 }
 
-// The first pair, from b and esb on in counting order, whose telegram is proper.
-pub fn pair_from(format: Format, block: &[u8], b: u16, esb: u16) -> Search
-    requires t { T (all_bits block.now) }
+// The first pair, from the given one on in counting order, whose telegram is proper.
+pub fn pair_from(format: Format, block: &[u8], pair: Pair) -> Option<Pair>
+    requires are_bits { T (all_bits block.now) }
     requires block_len { length block.now ≡ (numbers_of format).m }
-    requires b_bound { (b < 4096) × (esb < 1024) }
-    ensures { result ≡ pair_of (pair_from format block.now (1024 * b + esb)) }
+    requires pair_bound { (pair.scrambling < 4096) × (pair.shaping < 1024) }
+    ensures { result ≡ pair_of (pair_from format block.now (1024 * pair.scrambling + pair.shaping)) }
 {
     let m = block.len();
-    let mut summed = [0u8; Long::M];
-    making::write_summed(block, &mut summed);
+    let mut buffer = [0u8; Long::M];
+    making::write_summed(block, &mut buffer);
+    let summed = Block {
+        format,
+        bits: &buffer[..m],
+    };
     let mut telegram = [0u8; Long::N];
-    let mut scrambling = b;
-    let mut from = esb;
-    while scrambling < 4096 {
-        let found = shaping_for(format, &summed[..m], scrambling, from, &mut telegram);
-        if let Shaping::At(shaping) = found {
-            return Search::Pair {
+    let mut shaping = pair.shaping;
+    for scrambling in pair.scrambling..4096 {
+        let from = Pair {
+            scrambling,
+            shaping,
+        };
+        let found = shaping_for(summed, from, &mut telegram);
+        if let Some(shaping) = found {
+            return Some(Pair {
                 scrambling,
                 shaping,
-            };
+            });
         }
-        from = 0;
-        scrambling += 1;
+        shaping = 0;
     }
-    Search::Nothing
+    None
 }

@@ -7,7 +7,6 @@ use borrow.Fn.Kinds.{ended_of}
 use borrow.Fn.World.{ArgsD, ResD}
 use denote.Triple.Clauses.{AtExit}
 use Rattle.refusals.specs.Outcome.{Outcome}
-use Rattle.captures.specs.declared.Capture.{Capture}
 use Rattle.captures.specs.contracts.search as plain
 use Rattle.captures.proofs.search.Kinds as plain-kinds
 use Rattle.captures.proofs.search.Reads as plain-reads
@@ -16,6 +15,9 @@ use Rattle.captures.proofs.search_read.Kinds as plain-read-kinds
 use Rattle.captures.proofs.search_read.Reads as plain-read-reads
 use Rattle.quick_search.proofs.search.Reads as quick-reads
 use Rattle.quick_search.proofs.search_read.Reads as quick-read-reads
+use Rattle.std.specs.Prelude.{Result}
+use Rattle.captures.specs.declared.Found.{Found}
+use Rattle.refusals.specs.declared.Refusal.{Refusal}
 
 -- called on one capture, `captures::search` answers r and `quick_search::search` r': the answers are equal, with the place and the reading
 pub quick_is_plain : (κs : Lfts 1) (capture : ArgsD plain.signature κs) (r r' : ResD plain.signature κs)
@@ -30,4 +32,4 @@ pub quick_read_is_plain : (κs : Lfts 2) (capture-output : ArgsD plain-read.sign
     → plain-read-reads.Post κs capture-output r s → quick-read-reads.Post κs capture-output r' s' → (r ≡ r') × (s.1.0.now ≡ s'.1.0.now)
 quick_read_is_plain κs capture-output r r' s s' plain quick =
     let both = sym plain ∙ quick in
-    (ap (λ (y : Outcome Capture). y.answer) both, ap (λ (y : Outcome Capture). y.output) both)
+    (ap (λ (y : Outcome (Result Found Refusal)). y.answer) both, ap (λ (y : Outcome (Result Found Refusal)). y.output) both)

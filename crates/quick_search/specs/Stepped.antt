@@ -1,15 +1,14 @@
 -- What one step of a format's walk through a capture tells (for the contract of a private function). Assumes nothing.
-use Rattle.std.specs.Prelude.{ℕ, ◌≤◌, ◌<◌, ◌≡◌, Bool, true, false, List}
+use Rattle.std.specs.Prelude.{ℕ, ◌≤◌, ◌<◌, ◌≡◌, Bool, true, false, List, Option, Some, None, Ok}
 use Rattle.formats.specs.declared.format.Format.{Format}
 use Rattle.formats.specs.Numbers.{numbers_of}
 use Rattle.refusals.specs.Outcome.{outcome}
 use Rattle.reader.specs.declared.Asked.TheVariants.{Proper}
-use Rattle.reader.specs.declared.ReadAnswer.TheVariants.{Read}
 use Rattle.reader.specs.Reads.{read_as}
 use Rattle.captures.specs.Captures.{window_at, accepts_as}
 use Rattle.quick_search.specs.Pairs.{PairsAgree}
-use Rattle.quick_search.specs.declared.walk.Walked.{Walked}
-use Rattle.quick_search.specs.declared.walk.Walked.TheVariants.{Reads, Next}
+use Rattle.captures.specs.declared.Found.{Found}
+use Rattle.quick_search.specs.declared.walk.Walk.{Walk}
 
 -- read accepts the format's window at none of the places from p up to q, q left out
 abbrev pub NoneFrom : Format → List ℕ → ℕ → ℕ → Type 0
@@ -20,7 +19,7 @@ abbrev pub GoesOn : Format → List ℕ → ℕ → Bool → Type 0
 GoesOn format s p true = (q : ℕ) × ((q ≤ p) × PairsAgree (numbers_of format).n s q p × (accepts_as format s q ≡ false))
 GoesOn format s p false = Unit {0}
 
--- the window at place p is read, or none before a later place is, and the output is as it was
-abbrev pub Stepped : Format → List ℕ → ℕ → List ℕ → Walked → List ℕ → Type 0
-Stepped format s p out (Reads reading) after = read_as Proper format (window_at format s p) out ≡ outcome (Read reading) after
-Stepped format s p out (Next q refused) after = (p < q) × NoneFrom format s p q × GoesOn format s q refused × (after ≡ out)
+-- at place p the window is read, or none before a later place is, and the output is as it was
+abbrev pub Stepped : Format → List ℕ → ℕ → List ℕ → Option Found → Walk → List ℕ → Type 0
+Stepped format s p out (Some here) walk after = (here.place ≡ p) × (read_as Proper format (window_at format s p) out ≡ outcome (Ok here.reading) after)
+Stepped format s p out None walk after = (p < walk.place) × NoneFrom format s p walk.place × GoesOn format s walk.place walk.refused × (after ≡ out)

@@ -9,74 +9,49 @@ ghost use Rattle.refusals.specs.Outcome.{outcome};
 ghost use Rattle.captures.specs.Captures.{first_place, search_of, stretch_of, search_read_of};
 ghost use Rattle.captures.specs.Attempts.{out_found};
 
-use captures::{Capture, Tested};
-use formats::format;
+use captures::Found;
 use formats::format::{Format, Long};
 use refusals::Refusal;
-use walk::Walked;
+use walk::Walk;
 
 mod pairs;
 mod walk;
 
 // The first place at which read accepts, of a capture of any length whose bytes are known to be bits: a walk for each format, of which
 // the one at the lower place takes the next step, the long one where both are at one place. Not a call of the bench.
-pub fn search_bits(capture: &[u8], output: &mut [u8]) -> Capture
-    requires t { T (all_bits capture.now) }
+pub fn search_bits(capture: &[u8], output: &mut [u8]) -> Result<Found, Refusal>
+    requires are_bits { T (all_bits capture.now) }
     requires m_in_bounds { long.m ≤ length output.old }
     ensures { out_found capture.now output.old (first_place capture.now) ≡ outcome result output.new }
 {
-    let mut long = 0;
-    let mut long_refused = false;
-    let mut short = 0;
-    let mut short_refused = false;
-    while long < capture.len() || short < capture.len() {
-        if long <= short {
-            let tried = walk::step(Format::Long, capture, long, long_refused, output);
-            match tried {
-                Walked::Reads(reading) => {
-                    return Capture::Found {
-                        place: long,
-                        reading,
-                    };
-                }
-                Walked::Next { place, refused } => {
-                    long = place;
-                    long_refused = refused;
-                }
-            }
+    let mut long = Walk::at(0);
+    let mut short = Walk::at(0);
+    // A while, since a step goes on by as much as its walk passes over.
+    while long.place < capture.len() || short.place < capture.len() {
+        let tried = if long.place <= short.place {
+            long.step(Format::Long, capture, output)
         } else {
-            let tried = walk::step(Format::Short, capture, short, short_refused, output);
-            match tried {
-                Walked::Reads(reading) => {
-                    return Capture::Found {
-                        place: short,
-                        reading,
-                    };
-                }
-                Walked::Next { place, refused } => {
-                    short = place;
-                    short_refused = refused;
-                }
-            }
+            short.step(Format::Short, capture, output)
+        };
+        if let Some(found) = tried {
+            return Ok(found);
         }
     }
-    Capture::Refused(Refusal::NoPlace)
+    Err(Refusal::NoPlace)
 }
 
 // The first place at which read accepts, and the user bits of the window there over the front of output, which has room for those
-// of either format. A refusal keeps every byte of output.
-pub fn search_read(capture: &[u8], output: &mut [u8]) -> Capture
+// of either format. A refusal keeps every byte of output. With search and stretch this is captures' own over search_bits of this crate: each
+// is a call or two, so that one of both over the search, with clauses on what it finds, would be longer.
+pub fn search_read(capture: &[u8], output: &mut [u8]) -> Result<Found, Refusal>
     ensures { search_read_of capture.now output.old ≡ outcome result output.new }
 {
-    let tested = captures::test(capture, output.len());
-    match tested {
-        Tested::Refused(refusal) => Capture::Refused(refusal),
-        Tested::Clean => search_bits(capture, output),
-    }
+    captures::test(capture, output.len())?;
+    search_bits(capture, output)
 }
 
 // The first place at which read accepts.
-pub fn search(capture: &[u8]) -> Capture
+pub fn search(capture: &[u8]) -> Result<Found, Refusal>
     ensures { result ≡ search_of capture.now }
 {
     let mut output = [0u8; Long::M];
@@ -87,10 +62,8 @@ pub fn search(capture: &[u8]) -> Capture
 pub fn stretch(capture: &[u8]) -> &[u8]
     ensures { result.now ≡ stretch_of capture.now }
 {
-    let Capture::Found { place, reading } = search(capture) else {
-        return &capture[..0];
-    };
-    let format = reading.format;
-    let end = place + format::window_bits(format);
-    &capture[place..end]
+    match search(capture) {
+        Ok(found) => captures::window_at(found.reading.format, capture, found.place),
+        Err(_) => &capture[..0],
+    }
 }

@@ -9,13 +9,10 @@ pub fn agreed_from(n: usize, capture: &[u8], first: usize, end: usize) -> usize
     requires n_in_bounds { end + n ≤ length capture.now }
     ensures { AgreedFrom n capture.now first end result }
 {
-    let mut a = end;
-    while first < a {
-        let last = a - 1;
-        if capture[last] != capture[last + n] {
-            return a;
+    for a in (first..end).rev() {
+        if capture[a] != capture[a + n] {
+            return a + 1;
         }
-        a = last;
     }
-    a
+    first
 }

@@ -19,7 +19,6 @@ use Rattle.cyclic.specs.Check.{turned}
 use Rattle.cyclic.proofs.Laws.{turned_back_lem}
 use Rattle.telegrams.proofs.WellFormed.{parts}
 use Rattle.reader.specs.declared.Asked.{Asked}
-use Rattle.reader.specs.declared.ReadAnswer.{ReadAnswer}
 use Rattle.reader.specs.Windows.{oriented}
 use Rattle.reader.specs.Reads.{ends_agree, reads_as, read_by, reading_in}
 use Rattle.reader.specs.CutFrom.{CutFrom}
@@ -30,6 +29,9 @@ use Rattle.reader.proofs.AsAsked.{asked_tested}
 use Rattle.reader.proofs.CutReads.{cut-tells}
 use Rattle.reader.proofs.ReadsCut.{reads_cut}
 use Rattle.reader.proofs.Exact.{reads_exactly}
+use Rattle.std.specs.Prelude.{Result, Ok}
+use Rattle.reader.specs.declared.Reading.{Reading}
+use Rattle.refusals.specs.declared.Refusal.{Refusal}
 
 -- turned on to the end of the round, v is w again
 turned_on : (format : Format) (w v : List ℕ) (s : ℕ) → TurnedWindow format w v s → TurnedWindow format v w ((numbers_of format).n - s)
@@ -86,6 +88,10 @@ by_ring asked format w v s h =
     tests_agree (reads_as asked format w) (reads_as asked format v) (reads_turned asked format w v s h)
     (reads_turned asked format v w ((numbers_of format).n - s) (turned_on format w v s h))
 
+-- with some output left, it is read
+is_read : (asked : Asked) (w out : List ℕ) → ((reading : Reading) × (o : List ℕ) × (read_by asked w out ≡ outcome (Ok reading) o)) → IsRead asked w out
+is_read asked w out (reading, o, e) = (reading, ap (λ (y : Outcome (Result Reading Refusal)). y.answer) e)
+
 module _ (asked : Asked) (format : Format) (w v : List ℕ) (s : ℕ) (out other : List ℕ) where
   -- what is read is cut from a telegram, so the other is read too
   read_turned : TurnedWindow format w v s → (numbers_of format).m ≤ length out → (numbers_of format).m ≤ length other → IsRead asked w out → IsRead asked v other
@@ -93,9 +99,9 @@ module _ (asked : Asked) (format : Format) (w v : List ℕ) (s : ℕ) (out other
       let one = reads_exactly asked format w out (record { size = h.size; room = room }) in
       let two = reads_exactly asked format v other (record { size = h.turned_size; room = room' }) in
       let o = (read_by asked w out).output in
-      let (B, esb, t, flipped, u, c) = one.accepts.0 (reading, o, ap (λ (a : ReadAnswer). outcome a o) e) in
-      let (told, p, f) = two.accepts.1 (B, esb, (t + s) % (numbers_of format).n, flipped, u, cut-turned asked format w v s h B esb t flipped u c) in
-      (told, ap (λ (y : Outcome ReadAnswer). y.answer) f)
+      let (B, esb, t, flipped, u, c) = one.accepts.0 (reading, o, ap (λ (a : Result Reading Refusal). outcome a o) e) in
+      is_read asked v other
+      (two.accepts.1 (B, esb, (t + s) % (numbers_of format).n, flipped, u, cut-turned asked format w v s h B esb t flipped u c))
 
 -- the verdict of read, and of read_well_formed
 pub goes_by_ring : (asked : Asked) (format : Format) (w v : List ℕ) (s : ℕ) (out other : List ℕ) → TurnedWindow format w v s

@@ -17,7 +17,6 @@ use Rattle.formats.specs.declared.format.Format.{Format}
 use Rattle.formats.specs.Numbers.{Numbers, numbers_of, window_bits, f_of, g_of, fg_of}
 use Rattle.formats.proofs.Sizes.{Sizes, sizes_of}
 use Rattle.refusals.specs.Table.{verdict}
-use Rattle.cyclic.specs.declared.Turn.TheVariants.{At}
 use Rattle.cyclic.specs.Remainder.{remainder}
 use Rattle.cyclic.specs.Check.{g_padded, turned, turn_of, divisible}
 use Rattle.cyclic.proofs.Laws.{Facts, zeros, turned_back_lem, turned_reads, flip_fg, turn_of-turn}
@@ -36,6 +35,7 @@ use Rattle.reader.proofs.Ends.{ends_agree_lem}
 use Rattle.reader.proofs.Windows.{length-oriented, bits_oriented, oriented_twice, cut-oriented, ring-front, ring_ends}
 use Rattle.reader.proofs.AsAsked.{asked_tested}
 use Rattle.reader.proofs.Accepted.{reads_passed}
+use Rattle.std.specs.Prelude.{Some}
 
 -- ---- the flip
 
@@ -99,7 +99,7 @@ module _ (format : Format) (x : List ℕ) (t : ℕ) (bits : T (all_bits x)) (siz
       (ap (remainder (g_of F)) ring-turned ∙ (turned_reads F (facts_of format) t x bits below size code).0)
 
   -- and their remainder by f is that of the turn t
-  ring-turn : turn_found (numbers_of format) (around (window_bits (numbers_of format)) t x) ≡ At t
+  ring-turn : turn_found (numbers_of format) (around (window_bits (numbers_of format)) t x) ≡ Some t
   unfolding turn_found
   ring-turn =
       let F = numbers_of format in
@@ -122,7 +122,7 @@ module _ (format : Format) (b : List ℕ) (t : ℕ) (flipped : Bool) (h : Contro
     pub bits : all_bits w ≡ true
     pub ends : ends_agree (numbers_of format) w ≡ true
     pub divided : divisible (numbers_of format) (take (numbers_of format).n w) ≡ true
-    pub turn : turn_found (numbers_of format) w ≡ At t
+    pub turn : turn_found (numbers_of format) w ≡ Some t
     pub flip : is_flipped (numbers_of format) (turned_back (numbers_of format) t w) ≡ flipped
     pub telegram : telegram_in (numbers_of format) t w ≡ b
 

@@ -18,8 +18,6 @@ use Rattle.refusals.proofs.Fronts.{front-written, fronts_same}
 use Rattle.telegrams.proofs.Made.{length-user_bits}
 use Rattle.reader.specs.declared.Asked.{Asked}
 use Rattle.reader.specs.declared.Reading.{Reading}
-use Rattle.reader.specs.declared.ReadAnswer.{ReadAnswer}
-use Rattle.reader.specs.declared.ReadAnswer.TheVariants.{Read, Refused}
 use Rattle.reader.specs.Reads.{format_of, turn_in, telegram_in, read_table, user_bits_in, read_out, read_by}
 use Rattle.reader.specs.CutFrom.{CutFrom}
 use Rattle.reader.specs.ReadsExactly.{gave_block, ReadAnswers, LentWindow, ReadsExactly}
@@ -27,25 +25,26 @@ use Rattle.reader.proofs.Steps.{decided, any_window, read_as_lem, rises}
 use Rattle.reader.proofs.Laws.{reads_as_lem, answered_read, answered_refused, read_accepted}
 use Rattle.reader.proofs.CutReads.{cut-tells}
 use Rattle.reader.proofs.ReadsCut.{reads_cut}
+use Rattle.std.specs.Prelude.{Result, Ok, Err}
 
 -- ---- refused by the table
 
 -- what an answer says
-abbrev pub said : ReadAnswer → Verdict Refusal
-said (Refused r) = refused r
-said (Read reading) = accepted
+abbrev pub said : Result Reading Refusal → Verdict Refusal
+said (Err r) = refused r
+said (Ok reading) = accepted
 
-refusal_said : (a : ReadAnswer) (r : Refusal) → said a ≡ refused r → a ≡ Refused r
-refusal_said (Refused q) r e = cc
-refusal_said (Read reading) r e = clash cc
+refusal_said : (a : Result Reading Refusal) (r : Refusal) → said a ≡ refused r → a ≡ Err r
+refusal_said (Err q) r e = cc
+refusal_said (Ok reading) r e = clash cc
 
 -- is the table's verdict
 pub verdict-said : (asked : Asked) (w out : List ℕ) → said (read_by asked w out).answer ≡ verdict (read_table asked (format_of w) (length out) w)
 verdict-said asked w out =
     let v = verdict (read_table asked (format_of w) (length out) w) in
-    ap (λ (x : Outcome ReadAnswer). said x.answer) (any_window asked w out ∙ decided asked (format_of w) w out v refl)
-    ∙ ap said (answer_by_lem Refused out (read_out (format_of w) w out) v)
-    ∙ answer_said Refused said (λ r. refl) (read_out (format_of w) w out).answer refl v
+    ap (λ (x : Outcome (Result Reading Refusal)). said x.answer) (any_window asked w out ∙ decided asked (format_of w) w out v refl)
+    ∙ ap said (answer_by_lem Err out (read_out (format_of w) w out) v)
+    ∙ answer_said Err said (λ r. refl) (read_out (format_of w) w out).answer refl v
 
 -- ---- accepted where it is cut from a telegram
 
@@ -56,11 +55,11 @@ module _ (asked : Asked) (format : Format) (w out : List ℕ) where
   cut_read room B esb t flipped u c =
       let k = cut-tells asked format w B esb t flipped u c in
       reads_as_lem asked format w out k.accepted room
-      ∙ ap₂ (λ (x : Reading) (l : List ℕ). outcome (Read x) (l ++ drop (numbers_of format).m out)) k.reading k.user_bits
+      ∙ ap₂ (λ (x : Reading) (l : List ℕ). outcome (Ok x) (l ++ drop (numbers_of format).m out)) k.reading k.user_bits
 
   module _ (size : length w ≡ window_bits (numbers_of format)) where
     -- accepted means cut
-    read_cut : (reading : Reading) (o : List ℕ) → read_by asked w out ≡ outcome (Read reading) o
+    read_cut : (reading : Reading) (o : List ℕ) → read_by asked w out ≡ outcome (Ok reading) o
         → CutFrom asked format w reading.scrambling reading.shaping reading.turn reading.flipped (user_bits_in format w)
         × (o ≡ user_bits_in format w ++ drop (numbers_of format).m out)
     read_cut reading o e =
@@ -76,7 +75,7 @@ module _ (asked : Asked) (format : Format) (w out : List ℕ) where
 
 -- ---- what is written
 
-front-over : (asked : Asked) (w out : List ℕ) (reading : Reading) → (read_by asked w out).answer ≡ Read reading
+front-over : (asked : Asked) (w out : List ℕ) (reading : Reading) → (read_by asked w out).answer ≡ Ok reading
     → FrontWritten (numbers_of reading.format).m out (read_by asked w out).output
 unfolding user_bits_in
 front-over asked w out reading e =
@@ -92,11 +91,11 @@ pub read_answers : (asked : Asked) (w out : List ℕ) → ReadAnswers asked w ou
 read_answers asked w out =
     record {
       refuses =
-          refuses_by Refused said (λ r. refl) refusal_said refusal_number (read_table asked (format_of w) (length out) w) (rises asked (format_of w) (length out) w)
+          refuses_by Err said (λ r. refl) refusal_said refusal_number (read_table asked (format_of w) (length out) w) (rises asked (format_of w) (length out) w)
           (read_by asked w out).answer (verdict-said asked w out);
       keeps =
           λ r e. (answered_refused asked (format_of w) w out r (read_by asked w out).output
-          (sym (any_window asked w out) ∙ ap (λ (a : ReadAnswer). outcome a (read_by asked w out).output) e)).0;
+          (sym (any_window asked w out) ∙ ap (λ (a : Result Reading Refusal). outcome a (read_by asked w out).output) e)).0;
       writes = front-over asked w out;
     }
 

@@ -17,13 +17,12 @@ use Rattle.refusals.proofs.Table.{answer_by_lem}
 use Rattle.telegrams.proofs.WellFormed.{scrambling_below, shaping_below}
 use Rattle.reader.specs.declared.Asked.{Asked}
 use Rattle.reader.specs.declared.Reading.{Reading}
-use Rattle.reader.specs.declared.ReadAnswer.{ReadAnswer}
-use Rattle.reader.specs.declared.ReadAnswer.TheVariants.{Read, Refused}
 use Rattle.reader.specs.Reads.{format_of, ends_agree, turn_in, telegram_in, read_table, reading_of, reading_in, user_bits_in, read_out, read_as, read_by, reads_as}
 use Rattle.reader.proofs.Steps.{decided, any_window, read_as_lem}
 use Rattle.reader.proofs.Accepted.{accepted_passed, passed_accepted, with_room_lem, reads_passed}
 use Rattle.reader.proofs.Turns.{turn-leaves}
 use Rattle.reader.proofs.Parts.Found.{bits_found}
+use Rattle.std.specs.Prelude.{Result, Ok, Err}
 
 -- ---- windows that are accepted as a format's
 
@@ -60,33 +59,33 @@ reading_format format w = refl
 -- ---- what is answered for a window that is to be a format's
 
 -- the parts of an outcome, and of outcomes that are the same
-abbrev answer_of : Outcome ReadAnswer → ReadAnswer
+abbrev answer_of : Outcome (Result Reading Refusal) → Result Reading Refusal
 answer_of x = x.answer
 
-abbrev output_of : Outcome ReadAnswer → List ℕ
+abbrev output_of : Outcome (Result Reading Refusal) → List ℕ
 output_of x = x.output
 
-parts : {a b : ReadAnswer} {o p : List ℕ} → outcome a o ≡ outcome b p → (a ≡ b) × (o ≡ p)
+parts : {a b : Result Reading Refusal} {o p : List ℕ} → outcome a o ≡ outcome b p → (a ≡ b) × (o ≡ p)
 parts e = (ap answer_of e, ap output_of e)
 
 -- a refusal is no reading
-refused_read_lem : {A : Type 0} {r : Refusal} {reading : Reading} {o p : List ℕ} → outcome (Refused r) o ≡ outcome (Read reading) p → A
+refused_read_lem : {A : Type 0} {r : Refusal} {reading : Reading} {o p : List ℕ} → outcome (Err r) o ≡ outcome (Ok reading) p → A
 refused_read_lem e = let answers = (parts e).0 in clash cc
 
-pub read_one : {x y : Reading} → Read x ≡ Read y → x ≡ y
+pub read_one : {x y : Reading} → ◌≡◌ {A = Result Reading Refusal} (Ok x) (Ok y) → x ≡ y
 read_one e = cc
 
 module _ (asked : Asked) (format : Format) (w out : List ℕ) where
   -- it is refused, or accepted with room
-  abbrev Refused⊎Read : Type 0
-  Refused⊎Read =
-      ((r : Refusal) × (read_as asked format w out ≡ outcome (Refused r) out))
+  abbrev Err⊎Ok : Type 0
+  Err⊎Ok =
+      ((r : Refusal) × (read_as asked format w out ≡ outcome (Err r) out))
       ⊎ (T (reads_as asked format w) × ((numbers_of format).m ≤ length out) × (read_as asked format w out ≡ read_out format w out))
 
-  read_or_refused : Refused⊎Read
+  read_or_refused : Err⊎Ok
   read_or_refused = go (verdict (read_table asked format (length out) w)) refl
     where
-      go : (v : Verdict Refusal) → verdict (read_table asked format (length out) w) ≡ v → Refused⊎Read
+      go : (v : Verdict Refusal) → verdict (read_table asked format (length out) w) ≡ v → Err⊎Ok
       go (refused r) e = inl (r, decided asked format w out (refused r) e)
       go accepted e =
           let p = accepted_passed asked format (length out) w e in
@@ -100,21 +99,21 @@ module _ (asked : Asked) (format : Format) (w out : List ℕ) where
   reads_as_lem h room = read_as_lem asked format w out (reads_size asked format w h) ∙ reads_out h room
 
   -- what an answer tells
-  pub answered_read : (reading : Reading) (o : List ℕ) → read_as asked format w out ≡ outcome (Read reading) o
+  pub answered_read : (reading : Reading) (o : List ℕ) → read_as asked format w out ≡ outcome (Ok reading) o
       → T (reads_as asked format w) × ((numbers_of format).m ≤ length out) × (reading ≡ reading_in format w)
       × (o ≡ user_bits_in format w ++ drop (numbers_of format).m out)
   answered_read reading o e = go read_or_refused
     where
-      go : Refused⊎Read → T (reads_as asked format w) × ((numbers_of format).m ≤ length out) × (reading ≡ reading_in format w)
+      go : Err⊎Ok → T (reads_as asked format w) × ((numbers_of format).m ≤ length out) × (reading ≡ reading_in format w)
           × (o ≡ user_bits_in format w ++ drop (numbers_of format).m out)
       go (inl (r, f)) = refused_read_lem (sym f ∙ e)
       go (inr (h, room, f)) = let both = parts (sym e ∙ f) in (h, room, read_one both.0, both.1)
 
-  pub answered_refused : (r : Refusal) (o : List ℕ) → read_as asked format w out ≡ outcome (Refused r) o
+  pub answered_refused : (r : Refusal) (o : List ℕ) → read_as asked format w out ≡ outcome (Err r) o
       → (o ≡ out) × ((numbers_of format).m ≤ length out → reads_as asked format w ≡ false)
   answered_refused r o e = go read_or_refused
     where
-      go : Refused⊎Read → (o ≡ out) × ((numbers_of format).m ≤ length out → reads_as asked format w ≡ false)
+      go : Err⊎Ok → (o ≡ out) × ((numbers_of format).m ≤ length out → reads_as asked format w ≡ false)
       go (inl (q, f)) = ((parts (sym e ∙ f)).1, λ room. is_false (reads_as asked format w) (λ h. refused_read_lem (sym e ∙ reads_out h room)))
       go (inr (h, room, f)) = refused_read_lem (sym e ∙ f)
 
@@ -124,8 +123,8 @@ pub answer_as : (asked : Asked) (format : Format) (w out out' : List ℕ) → (n
 answer_as asked format w out out' room room' =
     let v = verdict (read_table asked format (numbers_of format).m w) in
     ap answer_of (decided asked format w out v (with_room_lem asked format w (length out) room))
-    ∙ answer_by_lem Refused out (read_out format w out) v
-    ∙ sym (ap answer_of (decided asked format w out' v (with_room_lem asked format w (length out') room')) ∙ answer_by_lem Refused out' (read_out format w out') v)
+    ∙ answer_by_lem Err out (read_out format w out) v
+    ∙ sym (ap answer_of (decided asked format w out' v (with_room_lem asked format w (length out') room')) ∙ answer_by_lem Err out' (read_out format w out') v)
 
 -- ---- what is answered for any window
 
@@ -146,13 +145,13 @@ pub record ReadAccepted (asked : Asked) (w out : List ℕ) (reading : Reading) :
   pub shaping : reading.shaping < 1024
   pub turn : reading.turn < (numbers_of reading.format).n
 
-pub read_accepted : (asked : Asked) (w out : List ℕ) (reading : Reading) → (read_by asked w out).answer ≡ Read reading → ReadAccepted asked w out reading
+pub read_accepted : (asked : Asked) (w out : List ℕ) (reading : Reading) → (read_by asked w out).answer ≡ Ok reading → ReadAccepted asked w out reading
 unfolding reading_in reading_of
 read_accepted asked w out reading e =
     let format = format_of w in
     let o = (read_by asked w out).output in
     let (h, room, reads, writes) =
-    answered_read asked format w out reading o (sym (any_window asked w out) ∙ ap (λ (a : ReadAnswer). outcome a o) e) in
+    answered_read asked format w out reading o (sym (any_window asked w out) ∙ ap (λ (a : Result Reading Refusal). outcome a o) e) in
     let below = reads_below asked format w h in
     subst (ReadAccepted asked w out) (sym reads)
     (record {

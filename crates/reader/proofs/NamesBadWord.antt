@@ -27,8 +27,6 @@ use Rattle.telegrams.proofs.FirstBad.{first_bad_lem}
 use Rattle.conditions.proofs.FirstFailing.{conditions_rise}
 use Rattle.reader.specs.declared.Asked.{Asked}
 use Rattle.reader.specs.declared.Asked.TheVariants.{WellFormed, Proper}
-use Rattle.reader.specs.declared.ReadAnswer.{ReadAnswer}
-use Rattle.reader.specs.declared.ReadAnswer.TheVariants.{Refused}
 use Rattle.reader.specs.Reads.{format_of, ends_agree, turn_found, is_turn, turn_in, is_flipped, turned_back, telegram_in, asked_table, telegram_table, read_table, read_by}
 use Rattle.reader.specs.AtTurn.{read_at_turn}
 use Rattle.reader.specs.ReadsExactly.{LentWindow}
@@ -38,6 +36,9 @@ use Rattle.reader.proofs.Accepted.{Placed}
 use Rattle.reader.proofs.CutReads.{cut-found}
 use Rattle.reader.proofs.ReadsCut.{below, found-checked, found-window}
 use Rattle.reader.proofs.Exact.{said, verdict-said}
+use Rattle.std.specs.Prelude.{Result, Err}
+use Rattle.reader.specs.declared.Reading.{Reading}
+use Rattle.refusals.specs.declared.Refusal.{Refusal}
 
 -- the conditions that are asked for have numbers above 9
 asked_rise : (asked : Asked) (format : Format) (b : List ℕ) → T (rises_above refusal_number 9 (asked_table asked format b))
@@ -74,11 +75,11 @@ module _ (asked : Asked) (format : Format) (w out : List ℕ) where
       )
 
   -- so it is cut from a telegram with that bad word
-  named_cut : length w ≡ window_bits (numbers_of format) → (bad : BadWord) → read_by asked w out ≡ outcome (Refused (NotWord bad)) out
+  named_cut : length w ≡ window_bits (numbers_of format) → (bad : BadWord) → read_by asked w out ≡ outcome (Err (NotWord bad)) out
       → CutFromBad format w bad
   named_cut size bad e =
       let F = numbers_of format in
-      let given = sym (verdict-said asked w out) ∙ ap (λ (x : Outcome ReadAnswer). said x.answer) e in
+      let given = sym (verdict-said asked w out) ∙ ap (λ (x : Outcome (Result Reading Refusal)). said x.answer) e in
       let (p, first) = refused_placed (length out) bad (rw (format_of_lem format w size) at given) in
       record {
         telegram = telegram_in F (turn_in F w) w;
@@ -91,7 +92,7 @@ module _ (asked : Asked) (format : Format) (w out : List ℕ) where
       }
 
   -- and the other way
-  cut_named : (numbers_of format).m ≤ length out → (bad : BadWord) → CutFromBad format w bad → read_by asked w out ≡ outcome (Refused (NotWord bad)) out
+  cut_named : (numbers_of format).m ≤ length out → (bad : BadWord) → CutFromBad format w bad → read_by asked w out ≡ outcome (Err (NotWord bad)) out
   unfolding read_at_turn
   cut_named room bad c =
       let F = numbers_of format in
@@ -102,10 +103,10 @@ module _ (asked : Asked) (format : Format) (w out : List ℕ) where
       ∙ turn_found_lem asked format w out found.size found.bits room found.ends found.divided c.t found.turn
       ∙ rw found.telegram
       (word_refused asked format c.t (is_flipped F (turned_back F c.t w)) b out (equal_same (control_of F b) control c.but_words.control_is) some)
-      ∙ ap (λ (x : BadWord). outcome (Refused (NotWord x)) out) is
+      ∙ ap (λ (x : BadWord). outcome (Err (NotWord x)) out) is
 
 -- its index is that of a word
-pub named_below : (asked : Asked) (w out : List ℕ) (bad : BadWord) → (read_by asked w out).answer ≡ Refused (NotWord bad)
+pub named_below : (asked : Asked) (w out : List ℕ) (bad : BadWord) → (read_by asked w out).answer ≡ Err (NotWord bad)
     → bad.index < (numbers_of (format_of w)).words
 named_below asked w out bad e = (refused_placed asked (format_of w) w out (length out) bad (sym (verdict-said asked w out) ∙ ap said e)).1.among
 

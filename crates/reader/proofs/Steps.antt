@@ -17,26 +17,24 @@ use Rattle.refusals.specs.declared.Refusal.TheVariants.{Length, NotBit, OutputSh
 use Rattle.refusals.specs.Refused.{refusal_number}
 use Rattle.refusals.specs.Table.{Verdict, verdict, outcome_by, rises_above}
 use Rattle.refusals.specs.Outcome.{outcome}
-use Rattle.cyclic.specs.declared.Turn.TheVariants.{At, Nothing}
 use Rattle.cyclic.specs.Check.{divisible}
 use Rattle.telegrams.specs.Telegram.{control}
 use Rattle.telegrams.specs.Fields.{control_of, all_words, user_bits_of}
 use Rattle.telegrams.specs.Worded.{bad_word}
-use Rattle.conditions.specs.declared.Failing.TheVariants.{First, None}
 use Rattle.conditions.proofs.FirstFailing.{first_refused, none_accepted, conditions_rise}
 use Rattle.reader.specs.declared.Asked.{Asked}
 use Rattle.reader.specs.declared.Asked.TheVariants.{WellFormed, Proper}
-use Rattle.reader.specs.declared.ReadAnswer.TheVariants.{Read, Refused}
 use Rattle.reader.specs.Reads.{format_of, ends_agree, turn_found, turn_in, telegram_in, telegram_table, asked_table, read_table, reading_of, reading_in, user_bits_in, read_out, read_as, read_by}
 use Rattle.reader.specs.AtTurn.{asked_failing, read_telegram, read_at_turn}
+use Rattle.std.specs.Prelude.{Some, None, Ok, Err}
 
 -- ---- by the verdict
 
 -- a window that is to be the format's
 pub decided : (asked : Asked) (format : Format) (w out : List ℕ) (v : Verdict Refusal) → verdict (read_table asked format (length out) w) ≡ v
-    → read_as asked format w out ≡ outcome_by Refused out (read_out format w out) v
+    → read_as asked format w out ≡ outcome_by Err out (read_out format w out) v
 unfolding read_as
-decided asked format w out v e = ap (outcome_by Refused out (read_out format w out)) e
+decided asked format w out v e = ap (outcome_by Err out (read_out format w out)) e
 
 -- any window is to be that of the format that its length picks
 pub any_window : (asked : Asked) (w out : List ℕ) → read_by asked w out ≡ read_as asked (format_of w) w out
@@ -62,25 +60,25 @@ read_as_lem asked format w out size = any_window asked w out ∙ ap (λ (f : For
 
 -- 1: it has another length
 pub length_refused : (asked : Asked) (format : Format) (w out : List ℕ) → (length w ≡ window_bits (numbers_of format) → ⊥)
-    → read_as asked format w out ≡ outcome (Refused Length) out
+    → read_as asked format w out ≡ outcome (Err Length) out
 unfolding read_as read_table verdict
 length_refused asked format w out e = rw (ne_eqb (length w) (window_bits (numbers_of format)) e)
 
 module _ (asked : Asked) (format : Format) (w out : List ℕ) (size : length w ≡ window_bits (numbers_of format)) where
   -- 2: a byte is not a bit
-  pub bits_refused : all_bits w ≡ false → read_as asked format w out ≡ outcome (Refused NotBit) out
+  pub bits_refused : all_bits w ≡ false → read_as asked format w out ≡ outcome (Err NotBit) out
   unfolding read_as read_table verdict
   bits_refused bits = rw (eq-eqb (length w) (window_bits (numbers_of format)) size, bits)
 
   -- 3: the output is too short
-  pub room_refused : all_bits w ≡ true → length out < (numbers_of format).m → read_as asked format w out ≡ outcome (Refused OutputShort) out
+  pub room_refused : all_bits w ≡ true → length out < (numbers_of format).m → read_as asked format w out ≡ outcome (Err OutputShort) out
   unfolding read_as read_table verdict
   room_refused bits less =
       rw (eq-eqb (length w) (window_bits (numbers_of format)) size, bits, lt-leb (numbers_of format).m (length out) less)
 
   module _ (bits : all_bits w ≡ true) (room : (numbers_of format).m ≤ length out) where
     -- 5: the ends differ
-    pub ends_refused : ends_agree (numbers_of format) w ≡ false → read_as asked format w out ≡ outcome (Refused EndsDiffer) out
+    pub ends_refused : ends_agree (numbers_of format) w ≡ false → read_as asked format w out ≡ outcome (Err EndsDiffer) out
     unfolding read_as read_table verdict
     ends_refused ends =
         rw (eq-eqb (length w) (window_bits (numbers_of format)) size, bits, le-leb (numbers_of format).m (length out) room, ends)
@@ -88,20 +86,20 @@ module _ (asked : Asked) (format : Format) (w out : List ℕ) (size : length w �
     module _ (ends : ends_agree (numbers_of format) w ≡ true) where
       -- 6: g does not divide the first n bits
       pub divisible_refused : divisible (numbers_of format) (take (numbers_of format).n w) ≡ false
-          → read_as asked format w out ≡ outcome (Refused NotDivisible) out
+          → read_as asked format w out ≡ outcome (Err NotDivisible) out
       unfolding read_as read_table verdict
       divisible_refused divided =
           rw (eq-eqb (length w) (window_bits (numbers_of format)) size, bits, le-leb (numbers_of format).m (length out) room, ends, divided)
 
       module _ (divided : divisible (numbers_of format) (take (numbers_of format).n w) ≡ true) where
         -- 7: there is no turn
-        pub turn_refused : turn_found (numbers_of format) w ≡ Nothing → read_as asked format w out ≡ outcome (Refused NoTurn) out
+        pub turn_refused : turn_found (numbers_of format) w ≡ None → read_as asked format w out ≡ outcome (Err NoTurn) out
         unfolding read_as read_table verdict
         turn_refused turn =
             rw (eq-eqb (length w) (window_bits (numbers_of format)) size, bits, le-leb (numbers_of format).m (length out) room, ends, divided, turn)
 
         -- there is one: the telegram there decides
-        pub turn_found_lem : (t : ℕ) → turn_found (numbers_of format) w ≡ At t → read_as asked format w out ≡ read_at_turn asked format t w out
+        pub turn_found_lem : (t : ℕ) → turn_found (numbers_of format) w ≡ Some t → read_as asked format w out ≡ read_at_turn asked format t w out
         unfolding read_as read_table verdict read_at_turn read_telegram reading_in user_bits_in turn_in
         turn_found_lem t turn =
             rw (eq-eqb (length w) (window_bits (numbers_of format)) size, bits, le-leb (numbers_of format).m (length out) room, ends, divided, turn)
@@ -109,26 +107,26 @@ module _ (asked : Asked) (format : Format) (w out : List ℕ) (size : length w �
 -- the telegram b, found at the turn t
 module _ (asked : Asked) (format : Format) (t : ℕ) (flipped : Bool) (b out : List ℕ) where
   -- 8: control bits other than 0, 0, 1
-  pub control_refused : same (control_of (numbers_of format) b) control ≡ false → read_telegram asked format t flipped b out ≡ outcome (Refused Control) out
+  pub control_refused : same (control_of (numbers_of format) b) control ≡ false → read_telegram asked format t flipped b out ≡ outcome (Err Control) out
   unfolding read_telegram telegram_table verdict
   control_refused controlled = rw controlled
 
   -- 9: a word that is not in the table
   pub word_refused : same (control_of (numbers_of format) b) control ≡ true → all_words (numbers_of format).words b ≡ false
-      → read_telegram asked format t flipped b out ≡ outcome (Refused (NotWord (bad_word (numbers_of format).words b))) out
+      → read_telegram asked format t flipped b out ≡ outcome (Err (NotWord (bad_word (numbers_of format).words b))) out
   unfolding read_telegram telegram_table verdict
   word_refused controlled worded = rw (controlled, worded)
 
   -- 10, 11 or 12: a condition that is asked for fails
   pub condition_refused : same (control_of (numbers_of format) b) control ≡ true → all_words (numbers_of format).words b ≡ true
-      → (r : Refusal) → asked_failing asked format b ≡ First r → read_telegram asked format t flipped b out ≡ outcome (Refused r) out
+      → (r : Refusal) → asked_failing asked format b ≡ Err r → read_telegram asked format t flipped b out ≡ outcome (Err r) out
   unfolding read_telegram telegram_table verdict asked_failing
   condition_refused controlled worded r failing = rw (controlled, worded, first_refused (verdict (asked_table asked format b)) r failing)
 
   -- none applies
   pub telegram_read : same (control_of (numbers_of format) b) control ≡ true → all_words (numbers_of format).words b ≡ true
-      → asked_failing asked format b ≡ None
+      → asked_failing asked format b ≡ Ok (tt {0})
       → read_telegram asked format t flipped b out
-      ≡ outcome (Read (reading_of format t flipped b)) (user_bits_of (numbers_of format) b ++ drop (numbers_of format).m out)
+      ≡ outcome (Ok (reading_of format t flipped b)) (user_bits_of (numbers_of format) b ++ drop (numbers_of format).m out)
   unfolding read_telegram telegram_table verdict asked_failing
   telegram_read controlled worded failing = rw (controlled, worded, none_accepted (verdict (asked_table asked format b)) failing)

@@ -1,13 +1,12 @@
 -- The verdict of a window goes by its ring and not by the turn: two windows whose ends agree, the first n bits of the one those of the other
 -- turned, are accepted together (document 01, "Search, reading and place"; document 02, No. 2).
 -- Assumes nothing.
-use Rattle.std.specs.Prelude.{ℕ, ◌+◌, ◌%◌, ◌≤◌, Bool, ◌≡◌, List, ◌↔◌, T, length, take}
+use Rattle.std.specs.Prelude.{ℕ, ◌+◌, ◌%◌, ◌≤◌, Bool, ◌≡◌, List, ◌↔◌, T, length, take, Ok}
 use Rattle.formats.specs.declared.format.Format.{Format}
 use Rattle.formats.specs.Numbers.{numbers_of, window_bits}
 use Rattle.cyclic.specs.Check.{turned}
 use Rattle.reader.specs.declared.Asked.{Asked}
 use Rattle.reader.specs.declared.Reading.{Reading}
-use Rattle.reader.specs.declared.ReadAnswer.TheVariants.{Read}
 use Rattle.reader.specs.Reads.{ends_agree, read_by}
 use Rattle.reader.specs.ReadsExactly.{gave_block}
 
@@ -22,7 +21,7 @@ pub record TurnedWindow (format : Format) (w v : List ℕ) (s : ℕ) : Type 0 wh
 
 -- the window is read
 abbrev pub IsRead : Asked → List ℕ → List ℕ → Type 0
-IsRead asked w out = (reading : Reading) × ((read_by asked w out).answer ≡ Read reading)
+IsRead asked w out = (reading : Reading) × ((read_by asked w out).answer ≡ Ok reading)
 
 -- each lent an output with room
 pub record GoesByRing (asked : Asked) (format : Format) (w v : List ℕ) (s : ℕ) (out other : List ℕ) : Type 0 where

@@ -1,7 +1,7 @@
 -- What reading a window answers, and what the output holds afterwards (document 01, "Search, reading and place", and
 -- "When the bench says no"; document 02, No. 2, No. 11 and No. 13).
 -- Assumes nothing.
-use Rattle.std.specs.Prelude.{ℕ, ◌-◌, Bool, true, false, not, List, [], ◌∷◌, ◌++◌, eqb, leb, length, get_or, take, drop}
+use Rattle.std.specs.Prelude.{ℕ, ◌-◌, Bool, true, false, not, List, [], ◌∷◌, ◌++◌, eqb, leb, length, get_or, take, drop, Option, Result, Some, None, Ok, Err}
 use Rattle.bits.specs.Bits.{all_bits, same}
 use Rattle.formats.specs.declared.format.Format.{Format}
 use Rattle.formats.specs.Numbers.{Numbers, short, numbers_of, window_bits, format_for, f_of}
@@ -10,8 +10,6 @@ use Rattle.refusals.specs.declared.Refusal.TheVariants.{Length, NotBit, OutputSh
 use Rattle.refusals.specs.Table.{Row, ◌when◌, verdict, accepts, outcome_by}
 use Rattle.refusals.specs.Outcome.{Outcome, outcome}
 use Rattle.refusals.specs.AnswerValues.{format_number, flipped_number, refusal_values}
-use Rattle.cyclic.specs.declared.Turn.{Turn}
-use Rattle.cyclic.specs.declared.Turn.TheVariants.{At, Nothing}
 use Rattle.cyclic.specs.Remainder.{remainder}
 use Rattle.cyclic.specs.Check.{turned, turn_of, divisible}
 use Rattle.telegrams.specs.Telegram.{control}
@@ -21,8 +19,6 @@ use Rattle.conditions.specs.FirstFailing.{condition_table}
 use Rattle.reader.specs.declared.Asked.{Asked}
 use Rattle.reader.specs.declared.Asked.TheVariants.{WellFormed, Proper}
 use Rattle.reader.specs.declared.Reading.{Reading}
-use Rattle.reader.specs.declared.ReadAnswer.{ReadAnswer}
-use Rattle.reader.specs.declared.ReadAnswer.TheVariants.{Read, Refused}
 use Rattle.reader.specs.Windows.{oriented}
 
 -- the values of a reading: format, flipped or not, B, turn, the window's place in a capture, and esb
@@ -31,9 +27,9 @@ reading_values place reading =
     format_number reading.format ∷ flipped_number reading.flipped ∷ reading.scrambling ∷ reading.turn ∷ place ∷ reading.shaping ∷ []
 
 -- the values of each answer: the number, 0 where nothing is refused, and those of the reading, at place 0; or those of the refusal
-abbrev pub read_values : ReadAnswer → List ℕ
-read_values (Read reading) = 0 ∷ reading_values 0 reading
-read_values (Refused refusal) = refusal_values refusal
+abbrev pub read_values : Result Reading Refusal → List ℕ
+read_values (Ok reading) = 0 ∷ reading_values 0 reading
+read_values (Err refusal) = refusal_values refusal
 
 -- the format that the window's length picks
 abbrev pub format_of : List ℕ → Format
@@ -46,17 +42,17 @@ unfoldable pub ends_agree : Numbers → List ℕ → Bool
 ends_agree F w = same (drop F.n w) (take F.r w)
 
 -- the turn whose remainder by f the first n bits have, if any
-unfoldable pub turn_found : Numbers → List ℕ → Turn
+unfoldable pub turn_found : Numbers → List ℕ → Option ℕ
 turn_found F w = turn_of F (remainder (f_of F) (take F.n w))
 
 -- is there one, and which; 0 where there is none
-abbrev pub is_turn : Turn → Bool
-is_turn (At t) = true
-is_turn Nothing = false
+abbrev pub is_turn : Option ℕ → Bool
+is_turn (Some t) = true
+is_turn None = false
 
-abbrev pub which_turn : Turn → ℕ
-which_turn (At t) = t
-which_turn Nothing = 0
+abbrev pub which_turn : Option ℕ → ℕ
+which_turn (Some t) = t
+which_turn None = 0
 
 unfoldable pub turn_in : Numbers → List ℕ → ℕ
 turn_in F w = which_turn (turn_found F w)
@@ -120,22 +116,22 @@ user_bits_in format w =
     user_bits_of F (telegram_in F (turn_in F w) w)
 
 -- what the window tells, and the user bits over the front of the output
-abbrev pub read_out : Format → List ℕ → List ℕ → Outcome ReadAnswer
-read_out format w out = outcome (Read (reading_in format w)) (user_bits_in format w ++ drop (numbers_of format).m out)
+abbrev pub read_out : Format → List ℕ → List ℕ → Outcome (Result Reading Refusal)
+read_out format w out = outcome (Ok (reading_in format w)) (user_bits_in format w ++ drop (numbers_of format).m out)
 
 -- a window that is to be the format's
-unfoldable pub read_as : Asked → Format → List ℕ → List ℕ → Outcome ReadAnswer
-read_as asked format w out = outcome_by Refused out (read_out format w out) (verdict (read_table asked format (length out) w))
+unfoldable pub read_as : Asked → Format → List ℕ → List ℕ → Outcome (Result Reading Refusal)
+read_as asked format w out = outcome_by Err out (read_out format w out) (verdict (read_table asked format (length out) w))
 
 -- any window
-unfoldable pub read_by : Asked → List ℕ → List ℕ → Outcome ReadAnswer
+unfoldable pub read_by : Asked → List ℕ → List ℕ → Outcome (Result Reading Refusal)
 read_by asked w out = read_as asked (format_of w) w out
 
 -- by read, and by read_well_formed
-abbrev pub read_of : List ℕ → List ℕ → Outcome ReadAnswer
+abbrev pub read_of : List ℕ → List ℕ → Outcome (Result Reading Refusal)
 read_of w out = read_by Proper w out
 
-abbrev pub read_well_formed_of : List ℕ → List ℕ → Outcome ReadAnswer
+abbrev pub read_well_formed_of : List ℕ → List ℕ → Outcome (Result Reading Refusal)
 read_well_formed_of w out = read_by WellFormed w out
 
 -- lent room, it is accepted as the format's

@@ -5,56 +5,45 @@ ghost use Rattle.formats.specs.Numbers.{numbers_of};
 ghost use Rattle.refusals.specs.Outcome.{outcome};
 ghost use Rattle.reader.specs.AtTurn.{asked_failing, read_telegram, read_at_turn};
 
-use crate::{Asked, ReadAnswer, Reading, turned};
-use conditions::Failing;
-use formats::format;
+use crate::{Asked, Reading, Window, turned};
 use formats::format::{Format, Long};
 use refusals::Refusal;
-use telegrams::fields::Worded;
-use telegrams::{fields, undoing};
+use telegrams::{Telegram, fields, undoing};
 
-// The first condition that fails, of those that are asked for.
-fn first_failing(asked: Asked, format: Format, telegram: &[u8]) -> Failing
-    requires { T (all_bits telegram.now) × (length telegram.now ≡ (numbers_of format).n) }
-    ensures { result ≡ asked_failing asked format telegram.now }
+// That the conditions that are asked for hold, or the refusal of the first that fails.
+fn first_failing(asked: Asked, telegram: Telegram<'_>) -> Result<(), Refusal>
+    ensures { result ≡ asked_failing asked telegram.entry.format telegram.entry.bits.now }
 {
     match asked {
-        Asked::WellFormed => Failing::None,
-        Asked::Proper => conditions::first_failing(format, telegram),
+        Asked::WellFormed => Ok(()),
+        Asked::Proper => conditions::first_failing(telegram),
     }
 }
 
 // Reads the telegram found at the turn t.
 fn read_telegram(
     asked: Asked,
-    format: Format,
     t: usize,
     flipped: bool,
-    telegram: &[u8],
+    telegram: Telegram<'_>,
     output: &mut [u8],
-) -> ReadAnswer
-    requires t { T (all_bits telegram.now) }
-    requires telegram_len { length telegram.now ≡ (numbers_of format).n }
-    requires format_in_bounds { (numbers_of format).m ≤ length output.old }
-    ensures { read_telegram asked format t flipped telegram.now output.old ≡ outcome result output.new }
+) -> Result<Reading, Refusal>
+    requires { (numbers_of telegram.format).m ≤ length output.old }
+    ensures { read_telegram asked telegram.entry.format t flipped telegram.entry.bits.now output.old ≡ outcome result output.new }
 {
-    if !fields::has_control(format, telegram) {
-        return ReadAnswer::Refused(Refusal::Control);
+    let format = telegram.format;
+    if !fields::has_control(format, telegram.bits) {
+        return Err(Refusal::Control);
     }
     let mut unshaped = [0u8; 10 * Long::WORDS];
-    let words = format::words(format);
-    let answer = undoing::unshape(telegram, words, &mut unshaped);
-    if let Worded::NotWord(bad) = answer {
-        return ReadAnswer::Refused(Refusal::NotWord(bad));
-    }
-    if let Failing::First(refusal) = first_failing(asked, format, telegram) {
-        return ReadAnswer::Refused(refusal);
-    }
-    let b = fields::scrambling_bits(format, telegram);
-    let esb = fields::shaping_bits(format, telegram);
-    let m = format::user_bits(format);
+    let words = format.words();
+    undoing::unshape(telegram.bits, words, &mut unshaped)?;
+    first_failing(asked, telegram)?;
+    let b = fields::scrambling_bits(format, telegram.bits);
+    let esb = fields::shaping_bits(format, telegram.bits);
+    let m = format.user_bits();
     undoing::write_user_bits(b, &unshaped[..m], output);
-    ReadAnswer::Read(Reading {
+    Ok(Reading {
         format,
         scrambling: b,
         shaping: esb,
@@ -66,19 +55,21 @@ fn read_telegram(
 // Reads the telegram that the window has at the turn t.
 pub fn read_turned(
     asked: Asked,
-    format: Format,
     t: usize,
-    window: &[u8],
+    window: Window<'_>,
     output: &mut [u8],
-) -> ReadAnswer
-    requires t { T (all_bits window.now) }
-    requires format_in_bounds { (numbers_of format).n ≤ length window.now }
-    requires t_bound { t ≤ (numbers_of format).n }
-    requires format_in_bounds_2 { (numbers_of format).m ≤ length output.old }
-    ensures { read_at_turn asked format t window.now output.old ≡ outcome result output.new }
+) -> Result<Reading, Refusal>
+    requires t_bound { t ≤ (numbers_of window.format).n }
+    requires room { (numbers_of window.format).m ≤ length output.old }
+    ensures { read_at_turn asked window.entry.format t window.entry.bits.now output.old ≡ outcome result output.new }
 {
     let mut telegram = [0u8; Long::N];
-    let flipped = turned::telegram_in(format, t, window, &mut telegram);
-    let n = format::telegram_bits(format);
-    read_telegram(asked, format, t, flipped, &telegram[..n], output)
+    let format = window.format;
+    let flipped = turned::telegram_in(t, window, &mut telegram);
+    let n = format.telegram_bits();
+    let found = Telegram {
+        format,
+        bits: &telegram[..n],
+    };
+    read_telegram(asked, t, flipped, found, output)
 }

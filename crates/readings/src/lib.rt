@@ -2,23 +2,24 @@
 // characters 0 and 1. No contract can say what is written. A line that cannot be written is an error.
 #![tactic(auto)]
 
-use formats::format;
 use formats::format::Long;
-use reader::{Asked, ReadAnswer, Reading};
+use reader::{Asked, Reading};
 use std::io;
 use std::io::Input;
-use texts::reading::Progress;
 use texts::{front, input, output};
 
 // The end of line three, and the user bits, which stand at the front of a buffer, as line four.
 pub fn print_reading(rt: &impl Print, reading: Reading, user_bits: &[u8]) -> io::Result<()> {
-    let format = reading.format;
-    output::print_field(rt, b"turn", reading.turn as u64)?;
-    output::print_field(rt, b"sb", reading.scrambling as u64)?;
-    output::print_flipped(rt, reading.flipped)?;
-    output::print_field(rt, b"esb", reading.shaping as u64)?;
-    output::end_line(rt)?;
-    output::print_bits(rt, front(user_bits, format::user_bits(format)))
+    let Reading {
+        format,
+        scrambling,
+        shaping,
+        turn,
+        flipped,
+    } = reading;
+    let side = if flipped { "flipped" } else { "upright" };
+    println!(rt; " turn {turn} sb {scrambling} {side} esb {shaping}")?;
+    output::print_bits(rt, front(user_bits, format.user_bits()))
 }
 
 // Lines three and four.
@@ -26,12 +27,12 @@ fn report(rt: &impl Print, asked: Asked, window: &[u8]) -> io::Result<()> {
     let mut user_bits = [0u8; Long::M];
     let answer = reader::read_as(asked, window, &mut user_bits);
     match answer {
-        ReadAnswer::Read(reading) => {
+        Ok(reading) => {
             let format = reading.format;
-            output::print_format(rt, format)?;
+            print!(rt; "{format}")?;
             print_reading(rt, reading, &user_bits)
         }
-        ReadAnswer::Refused(refusal) => output::print_refused(rt, refusal),
+        Err(refusal) => output::print_refused(rt, refusal),
     }
 }
 
@@ -39,7 +40,7 @@ fn report(rt: &impl Print, asked: Asked, window: &[u8]) -> io::Result<()> {
 pub fn read_window<R: Input + Print + Eprint>(rt: &R, asked: Asked, word: &[u8]) -> io::Result<()> {
     output::print_header(rt, word)?;
     let mut window = [0u8; Long::N + Long::R];
-    let Progress::Count(count) = input::read_text(rt, &mut window) else {
+    let Ok(count) = input::read_text(rt, &mut window) else {
         return output::print_bad(rt);
     };
     output::print_count(rt, count)?;

@@ -4,6 +4,7 @@
 
 ghost use Rattle.std.specs.Prelude.{◌≡◌};
 ghost use Rattle.refusals.specs.Refused.{refusal_number, tried_count, bad_word_in};
+ghost use Rattle.refusals.specs.declared.Refusal.TheVariants.{NotWord};
 
 use words::{BadWord, Kind};
 
@@ -28,57 +29,58 @@ pub enum Refusal {
 // How many pairs of scrambling and extra shaping bits there are.
 const PAIRS: u32 = 4194304;
 
-// The refusal's number.
-pub fn number(refusal: Refusal) -> u8
-    ensures { result ≡ refusal_number refusal }
-{
-    match refusal {
-        Refusal::Length => 1,
-        Refusal::NotBit => 2,
-        Refusal::OutputShort => 3,
-        Refusal::NoPair => 4,
-        Refusal::EndsDiffer => 5,
-        Refusal::NotDivisible => 6,
-        Refusal::NoTurn => 7,
-        Refusal::Control => 8,
-        Refusal::NotWord(_) => 9,
-        Refusal::OffStep => 10,
-        Refusal::Repeating => 11,
-        Refusal::Thinned => 12,
-        Refusal::NoPlace => 13,
-        Refusal::PairTooLarge => 27,
+impl Refusal {
+    // The refusal's number. A method and not a From: u8::from would not say which number is meant.
+    pub fn number(self) -> u8
+        ensures { result ≡ refusal_number self }
+    {
+        match self {
+            Refusal::Length => 1,
+            Refusal::NotBit => 2,
+            Refusal::OutputShort => 3,
+            Refusal::NoPair => 4,
+            Refusal::EndsDiffer => 5,
+            Refusal::NotDivisible => 6,
+            Refusal::NoTurn => 7,
+            Refusal::Control => 8,
+            Refusal::NotWord(_) => 9,
+            Refusal::OffStep => 10,
+            Refusal::Repeating => 11,
+            Refusal::Thinned => 12,
+            Refusal::NoPlace => 13,
+            Refusal::PairTooLarge => 27,
+        }
+    }
+
+    // The count of pairs tried that refusal 4 carries; 0 for every other.
+    pub fn tried(self) -> u32
+        ensures { result ≡ tried_count self }
+    {
+        match self {
+            Refusal::NoPair => PAIRS,
+            _ => 0,
+        }
+    }
+
+    // The bad word that refusal 9 carries; for every other one whose numbers are 0.
+    pub fn bad_word(self) -> BadWord
+        ensures { result ≡ bad_word_in self }
+    {
+        match self {
+            Refusal::NotWord(bad) => bad,
+            _ => BadWord {
+                kind: Kind::Other,
+                index: 0,
+            },
+        }
     }
 }
 
-// The count of pairs tried that refusal 4 carries; 0 for every other.
-pub fn tried(refusal: Refusal) -> u32
-    ensures { result ≡ tried_count refusal }
-{
-    if number(refusal) == 4 { PAIRS } else { 0 }
-}
+// A bad word is refusal 9, which carries it: `?` makes it so.
+impl From<BadWord> for Refusal {
+    ghost from_gives = { λ bad refusal. refusal ≡ NotWord bad };
 
-// The bad word that refusal 9 carries; for every other one whose numbers are 0.
-pub fn bad_word(refusal: Refusal) -> BadWord
-    ensures { result ≡ bad_word_in refusal }
-{
-    let none = BadWord {
-        kind: Kind::Other,
-        index: 0,
-    };
-    match refusal {
-        Refusal::Length => none,
-        Refusal::NotBit => none,
-        Refusal::OutputShort => none,
-        Refusal::NoPair => none,
-        Refusal::EndsDiffer => none,
-        Refusal::NotDivisible => none,
-        Refusal::NoTurn => none,
-        Refusal::Control => none,
-        Refusal::NotWord(bad) => bad,
-        Refusal::OffStep => none,
-        Refusal::Repeating => none,
-        Refusal::Thinned => none,
-        Refusal::NoPlace => none,
-        Refusal::PairTooLarge => none,
+    fn from(bad: BadWord) -> Self {
+        Self::NotWord(bad)
     }
 }

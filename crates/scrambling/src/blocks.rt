@@ -5,16 +5,14 @@ ghost use Rattle.scrambling.specs.Sum.{sum_of_blocks};
 
 // The sum of the numbers of the blocks of ten bits.
 pub(crate) fn sum_of_blocks(block: &[u8]) -> u32
-    requires t { T (all_bits block.now) }
+    requires are_bits { T (all_bits block.now) }
     requires block_len_bound { length block.now ≤ 1000 }
     ensures { result ≡ sum_of_blocks (length block.now / 10) block.now }
 {
     let blocks = block.len() / 10;
     let mut sum: u32 = 0;
-    let mut j = 0;
-    while j < blocks {
+    for j in 0..blocks {
         sum += bits::number(block, 10 * j, 10);
-        j += 1;
     }
     sum
 }

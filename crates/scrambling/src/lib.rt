@@ -3,7 +3,7 @@
 
 mod blocks;
 
-ghost use Rattle.std.specs.Prelude.{◌≡◌, ◌/◌, ◌<◌, ◌≤◌, T, ◌++◌, length, drop};
+ghost use Rattle.std.specs.Prelude.{◌≡◌, ◌/◌, ◌<◌, ◌≤◌, cond, T, ◌++◌, length, drop};
 ghost use Rattle.bits.specs.Bits.{all_bits};
 ghost use Rattle.scrambling.specs.Scrambling.{seed_of, top_bit, xor_bit, next_state, scrambled, descrambled};
 ghost use Rattle.scrambling.specs.Sum.{with_sum, without_sum};
@@ -51,43 +51,43 @@ impl Scrambler {
     }
 }
 
+// Passes a block through the register into the front of out: the user bits to scramble them, or, in the UNDO, the scrambled
+// bits. The register is fed the scrambled bit either way: the one that comes out, or in the UNDO the one that goes in.
+fn pass<const UNDO: bool>(b: u16, block: &[u8], out: &mut [u8])
+    requires are_bits { T (all_bits block.now) }
+    requires block_in_bounds { length block.now ≤ length out.old }
+    ensures { out.new ≡ cond UNDO (descrambled b block.now) (scrambled b block.now) ++ drop (length block.now) out.old }
+{
+    let mut register = Scrambler::new(b);
+    for (i, bit) in block.iter().enumerate() {
+        let bit_in = *bit as u32;
+        let bit_out = register.xor_top(bit_in);
+        register = register.fed(if UNDO { bit_in } else { bit_out });
+        out[i] = bit_out as u8;
+    }
+}
+
 // Scrambles a block of user bits into the front of out; the rest of out is kept.
 pub fn scramble(b: u16, block: &[u8], out: &mut [u8])
-    requires t { T (all_bits block.now) }
+    requires are_bits { T (all_bits block.now) }
     requires block_in_bounds { length block.now ≤ length out.old }
     ensures { out.new ≡ scrambled b block.now ++ drop (length block.now) out.old }
 {
-    let mut register = Scrambler::new(b);
-    let mut i = 0;
-    while i < block.len() {
-        let user_bit = block[i] as u32;
-        let scrambled_bit = register.xor_top(user_bit);
-        register = register.fed(scrambled_bit);
-        out[i] = scrambled_bit as u8;
-        i += 1;
-    }
+    pass::<false>(b, block, out);
 }
 
 // Descrambles a block of scrambled bits into the front of out; the rest of out is kept.
 pub fn descramble(b: u16, block: &[u8], out: &mut [u8])
-    requires t { T (all_bits block.now) }
+    requires are_bits { T (all_bits block.now) }
     requires block_in_bounds { length block.now ≤ length out.old }
     ensures { out.new ≡ descrambled b block.now ++ drop (length block.now) out.old }
 {
-    let mut register = Scrambler::new(b);
-    let mut i = 0;
-    while i < block.len() {
-        let scrambled_bit = block[i] as u32;
-        let user_bit = register.xor_top(scrambled_bit);
-        register = register.fed(scrambled_bit);
-        out[i] = user_bit as u8;
-        i += 1;
-    }
+    pass::<true>(b, block, out);
 }
 
 // Replaces the first block of ten bits by the sum of all blocks modulo 1024, in place.
 pub fn add_sum(block: &mut [u8])
-    requires t { T (all_bits block.old) }
+    requires are_bits { T (all_bits block.old) }
     requires in_bounds { 10 ≤ length block.old }
     requires block_len_bound { length block.old ≤ 1000 }
     ensures { block.new ≡ with_sum (length block.old / 10) block.old }
@@ -98,7 +98,7 @@ pub fn add_sum(block: &mut [u8])
 
 // Undoes add_sum, in place: takes the other blocks from the first modulo 1024.
 pub fn remove_sum(block: &mut [u8])
-    requires t { T (all_bits block.old) }
+    requires are_bits { T (all_bits block.old) }
     requires in_bounds { 10 ≤ length block.old }
     requires block_len_bound { length block.old ≤ 1000 }
     ensures { block.new ≡ without_sum (length block.old / 10) block.old }

@@ -2,10 +2,9 @@
 // (document 01, "Bench sheet").
 #![tactic(auto)]
 
-use captures::Capture;
+use captures::Found;
 use formats::format::Long;
 use std::io;
-use texts::reading::Progress;
 use texts::{front, input, output};
 
 // Lines three and four.
@@ -13,20 +12,19 @@ fn report(rt: &impl Print, capture: &[u8]) -> io::Result<()> {
     let mut user_bits = [0u8; Long::M];
     let answer = quick_search::search_read(capture, &mut user_bits);
     match answer {
-        Capture::Found { place, reading } => {
+        Ok(Found { place, reading }) => {
             let format = reading.format;
-            output::print_format(rt, format)?;
-            output::print_field(rt, b"place", place as u64)?;
+            print!(rt; "{format} place {place}")?;
             readings::print_reading(rt, reading, &user_bits)
         }
-        Capture::Refused(_) => output::print_none(rt),
+        Err(_) => output::print_none(rt),
     }
 }
 
 fn main(rt: HostRuntime) -> io::Result<()> {
     output::print_header(&rt, b"capture")?;
     let mut capture = [0u8; captures::LIMIT];
-    let Progress::Count(count) = input::read_text(&rt, &mut capture) else {
+    let Ok(count) = input::read_text(&rt, &mut capture) else {
         return output::print_bad(&rt);
     };
     output::print_count(&rt, count)?;

@@ -13,11 +13,12 @@ use Rattle.bits.proofs.AllBits.{all_bits-bits_of}
 use Rattle.bits.proofs.Groups.{length_groups, groups_bits, groups_of_groups, every_group_lem, groups_stay}
 use Rattle.bits.proofs.Numbers.{length-bits_of, number_bits}
 use Rattle.bits.proofs.Parts.{front_below, front_bits}
-use Rattle.words.specs.declared.Lookup.{Lookup}
 use Rattle.words.specs.Words.{word_of, lookup_of, is_word, number_in}
 use Rattle.words.proofs.WordBits.{lookup_bits, is_word-word, word_number}
 use Rattle.telegrams.specs.Telegram.{shaped}
 use Rattle.telegrams.specs.Fields.{all_words, unshaped}
+use Rattle.std.specs.Prelude.{Result}
+use Rattle.words.specs.declared.Kind.{Kind}
 
 -- the word of a block
 abbrev pub word_of_block : List ℕ → List ℕ
@@ -58,7 +59,7 @@ all_words-shaped k v rest bits =
 -- a block's word has the block's number
 block_stays : (v : List ℕ) → T (all_bits v) → 10 ≤ length v → block_of_word (word_of_block (take 10 v)) ≡ take 10 v
 block_stays v bits ten =
-    ap (λ (r : Lookup). bits_of 10 (number_in r)) (lookup_bits (number_of (take 10 v)) (front_below 10 v bits)) ∙ front_bits 10 v bits ten
+    ap (λ (r : Result ℕ Kind). bits_of 10 (number_in r)) (lookup_bits (number_of (take 10 v)) (front_below 10 v bits)) ∙ front_bits 10 v bits ten
 
 pub unshaped-shaped : (k : ℕ) (v rest : List ℕ) → T (all_bits v) → 10 * k ≤ length v → unshaped k (shaped k v ++ rest) ≡ take (10 * k) v
 unshaped-shaped k v rest bits within =

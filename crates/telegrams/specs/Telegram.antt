@@ -9,6 +9,7 @@ use Rattle.words.specs.Words.{word_of}
 use Rattle.scrambling.specs.Scrambling.{scrambled}
 use Rattle.scrambling.specs.Sum.{with_sum}
 use Rattle.cyclic.specs.Check.{check_bits}
+use Rattle.telegrams.specs.declared.Pair.{Pair}
 
 -- each of the next k blocks of ten bits, as a number i, becomes entry i of the table
 abbrev pub shaped : ℕ → List ℕ → List ℕ
@@ -25,6 +26,10 @@ control = 0 ∷ 0 ∷ 1 ∷ []
 -- B and esb are numbers of twelve and ten bits
 abbrev pub is_pair : ℕ → ℕ → Bool
 is_pair B esb = leb B 4095 && leb esb 1023
+
+-- the pair of both
+abbrev pub pair_with : ℕ → ℕ → Pair
+pair_with B esb = record { scrambling = B; shaping = esb }
 
 -- b109 to b85: control bits, scrambling bits, extra shaping bits
 unfoldable pub settings : ℕ → ℕ → List ℕ

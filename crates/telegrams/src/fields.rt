@@ -3,63 +3,48 @@ ghost use Rattle.std.specs.Prelude.{◌≡◌, ◌+◌, ◌-◌, ◌*◌, ◌≤
 ghost use Rattle.bits.specs.Bits.{all_bits, same, number_of};
 ghost use Rattle.formats.specs.Numbers.{numbers_of};
 ghost use Rattle.telegrams.specs.Telegram.{control};
-ghost use Rattle.telegrams.specs.declared.fields.Worded.TheVariants.{NotWord};
 ghost use Rattle.telegrams.specs.Fields.{control_of, scrambling_of, shaping_of, all_words};
 ghost use Rattle.telegrams.specs.Worded.{bad_word_at, worded};
 
-use formats::format;
 use formats::format::Format;
 use words::BadWord;
-
-// What going through some words tells: each is in the table, or the first that is not.
-#[derive(Clone, Copy)]
-pub enum Worded {
-    Whole,
-    NotWord(BadWord),
-}
 
 // b109 to b107.
 const CONTROL: [u8; 3] = [0, 0, 1];
 
-// That the word of s with this index is not in the table.
-pub fn not_word(s: &[u8], index: usize) -> Worded
-    requires t { T (all_bits s.now) }
+// The word of s with this index, which is not in the table.
+pub fn bad_word(s: &[u8], index: usize) -> BadWord
+    requires are_bits { T (all_bits s.now) }
     requires index_in_bounds { 11 * index + 11 ≤ length s.now }
-    ensures { result ≡ NotWord (bad_word_at s.now index) }
+    ensures { result ≡ bad_word_at s.now index }
 {
     let word = bits::number(s, 11 * index, 11);
     let kind = words::kind_of(word as u16);
-    Worded::NotWord(BadWord { kind, index })
+    BadWord { kind, index }
 }
 
 // Goes through the first k words of s: each is in the table, or the first that is not.
-pub fn go_through(s: &[u8], k: usize) -> Worded
-    requires t { T (all_bits s.now) }
+pub fn go_through(s: &[u8], k: usize) -> Result<(), BadWord>
+    requires are_bits { T (all_bits s.now) }
     requires k_in_bounds { 11 * k ≤ length s.now }
     ensures { result ≡ worded k s.now }
 {
-    let mut at = 0;
-    while at < k {
+    for at in 0..k {
         let word = bits::number(s, 11 * at, 11);
         if !words::in_table(word as u16) {
-            return not_word(s, at);
+            return Err(bad_word(s, at));
         }
-        at += 1;
     }
-    Worded::Whole
+    Ok(())
 }
 
 // Whether the first k words of s are all in the table.
 pub fn all_words(s: &[u8], k: usize) -> bool
-    requires t { T (all_bits s.now) }
+    requires are_bits { T (all_bits s.now) }
     requires k_in_bounds { 11 * k ≤ length s.now }
     ensures { result ≡ all_words k s.now }
 {
-    let told = go_through(s, k);
-    match told {
-        Worded::Whole => true,
-        Worded::NotWord(_) => false,
-    }
+    go_through(s, k).is_ok()
 }
 
 // Whether the control bits are 0, 0, 1.
@@ -67,7 +52,7 @@ pub fn has_control(format: Format, telegram: &[u8]) -> bool
     requires { (numbers_of format).n ≤ length telegram.now }
     ensures { result ≡ same (control_of (numbers_of format) telegram.now) control }
 {
-    let n = format::telegram_bits(format);
+    let n = format.telegram_bits();
     let at = n - 110;
     let control = CONTROL;
     bits::same(&telegram[at..at + 3], &control)
@@ -75,18 +60,18 @@ pub fn has_control(format: Format, telegram: &[u8]) -> bool
 
 // The k bits from b(top-1) on, of a telegram of n bits, as a number.
 fn field(format: Format, telegram: &[u8], top: usize, k: usize) -> u16
-    requires t { T (all_bits telegram.now) }
+    requires are_bits { T (all_bits telegram.now) }
     requires format_in_bounds { (numbers_of format).n ≤ length telegram.now }
     requires k_le_top { (k ≤ top) × ((top ≤ 110) × (k ≤ 12)) }
     ensures { result ≡ number_of (take k (drop ((numbers_of format).n - top) telegram.now)) }
 {
-    let n = format::telegram_bits(format);
+    let n = format.telegram_bits();
     bits::number(telegram, n - top, k) as u16
 }
 
 // The scrambling bits, b106 to b95, as a number.
 pub fn scrambling_bits(format: Format, telegram: &[u8]) -> u16
-    requires t { T (all_bits telegram.now) }
+    requires are_bits { T (all_bits telegram.now) }
     requires format_in_bounds { (numbers_of format).n ≤ length telegram.now }
     ensures { result ≡ scrambling_of (numbers_of format) telegram.now }
 {
@@ -95,7 +80,7 @@ pub fn scrambling_bits(format: Format, telegram: &[u8]) -> u16
 
 // The extra shaping bits, b94 to b85, as a number.
 pub fn shaping_bits(format: Format, telegram: &[u8]) -> u16
-    requires t { T (all_bits telegram.now) }
+    requires are_bits { T (all_bits telegram.now) }
     requires format_in_bounds { (numbers_of format).n ≤ length telegram.now }
     ensures { result ≡ shaping_of (numbers_of format) telegram.now }
 {

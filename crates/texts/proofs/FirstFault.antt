@@ -14,23 +14,23 @@ use Rattle.bits.proofs.Tests.{clash}
 use Rattle.refusals.specs.Outcome.{Outcome, outcome}
 use Rattle.texts.specs.declared.reading.Character.{Character}
 use Rattle.texts.specs.declared.reading.Character.TheVariants.{Bit, Skipped, Other}
-use Rattle.texts.specs.declared.reading.Progress.{Progress}
-use Rattle.texts.specs.declared.reading.Progress.TheVariants.{Bad}
+use Rattle.texts.specs.declared.reading.BadText.{BadText}
+use Rattle.std.specs.Prelude.{Result, Err}
 use Rattle.texts.specs.Reading.{Taken, good, bad, character_of, with_character, taken, progress_of, held, taken_into}
 use Rattle.texts.specs.Faults.{is_fault, room_after, good_bytes}
 use Rattle.texts.proofs.Taken.{taken-nil, taken-one, taken-append, taken_bad, next_good}
 
 -- how many good bytes, a byte at a time
-pub none_of_nil : (room : ℕ) → good_bytes room [] ≡ 0
+none_of_nil : (room : ℕ) → good_bytes room [] ≡ 0
 unfolding good_bytes
 none_of_nil room = refl
 
 module _ (room byte : ℕ) (text : List ℕ) {x : Character} (e : character_of byte ≡ x) where
-  pub none_at_fault : is_fault room x ≡ true → good_bytes room (byte ∷ text) ≡ 0
+  none_at_fault : is_fault room x ≡ true → good_bytes room (byte ∷ text) ≡ 0
   unfolding good_bytes
   none_at_fault f = rw (e, f)
 
-  pub one_more : is_fault room x ≡ false → good_bytes room (byte ∷ text) ≡ suc (good_bytes (room_after room x) text)
+  one_more : is_fault room x ≡ false → good_bytes room (byte ∷ text) ≡ suc (good_bytes (room_after room x) text)
   unfolding good_bytes
   one_more f = rw (e, f)
 
@@ -120,14 +120,14 @@ module _ (limit : ℕ) (s text : List ℕ) (h : length s ≤ limit) where
       clash (cc (ap (taken limit (good s)) (take_all _ text k)))
 
 -- an answer that a text is bad
-is_bad_lem : (t : Taken) → Bad ≡ progress_of t → IsBad t
+is_bad_lem : (t : Taken) → Err record {} ≡ progress_of t → IsBad t
 is_bad_lem (good s) e = clash (cc)
 is_bad_lem (bad s) e = (s, refl)
 
 -- a part of a text that is answered to be bad has a fault
 pub fault_in_part : (old : List ℕ) (count : ℕ) (part buffer : List ℕ) → count ≤ length old → length buffer ≡ length old
-    → outcome Bad buffer ≡ taken_into old count part → (count ≤ length buffer) × (good_bytes (length buffer - count) part < length part)
+    → outcome (Err record {}) buffer ≡ taken_into old count part → (count ≤ length buffer) × (good_bytes (length buffer - count) part < length part)
 fault_in_part old count part buffer h same e =
     let size : length (take count old) ≡ count = length-take-le count old h in
-    let answer = is_bad_lem (taken (length old) (held count old) part) (ap (λ (o : Outcome Progress). o.answer) e) in
+    let answer = is_bad_lem (taken (length old) (held count old) part) (ap (λ (o : Outcome (Result ℕ BadText)). o.answer) e) in
     rw same (h, rw size at (fault_where_bad (length old) (take count old) part (omega arith) answer))

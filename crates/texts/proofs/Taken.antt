@@ -13,8 +13,8 @@ use Rattle.bits.proofs.Tests.{clash}
 use Rattle.refusals.specs.Outcome.{Outcome, outcome}
 use Rattle.texts.specs.declared.reading.Character.{Character}
 use Rattle.texts.specs.declared.reading.Character.TheVariants.{Bit, Skipped, Other}
-use Rattle.texts.specs.declared.reading.Progress.{Progress}
-use Rattle.texts.specs.declared.reading.Progress.TheVariants.{Count, Bad}
+use Rattle.texts.specs.declared.reading.BadText.{BadText}
+use Rattle.std.specs.Prelude.{Result, Ok, Err}
 use Rattle.texts.specs.Reading.{Taken, good, bad, character_of, with_character, next, taken, bits_in, held, over, kept}
 
 pub taken-nil : (limit : ℕ) (t : Taken) → taken limit t [] ≡ t
@@ -63,8 +63,8 @@ taken_grows limit t (byte ∷ text) = le_trans (next_grows limit t byte) (taken_
 pub over-same : (b : List ℕ) (n : ℕ) → n ≤ length b → over (take n b) b ≡ b
 over-same b n h = ap (λ (k : ℕ). take n b ++ drop k b) (length-take-le n b h) ∙ take-append-drop n b
 
-pub kept-held : (b : List ℕ) (n : ℕ) → n ≤ length b → kept (held n b) b ≡ outcome (Count n) b
-kept-held b n h = ap₂ outcome (ap Count (length-take-le n b h)) (over-same b n h)
+pub kept-held : (b : List ℕ) (n : ℕ) → n ≤ length b → kept (held n b) b ≡ outcome (Ok n) b
+kept-held b n h = ap₂ outcome (ap Ok (length-take-le n b h)) (over-same b n h)
 
 -- what is written over a longer front that is written already
 over-over : (s v old : List ℕ) → length s ≤ length v → over v (over s old) ≡ over v old
@@ -75,18 +75,13 @@ over-over s v old h =
     ∙ drop-drop (length v - length s) (length s) old ∙ ap (λ (k : ℕ). drop k old) (sym split))
 
 -- a count and a buffer are those of a good text
-counted : (t : Taken) (n : ℕ) (buffer old : List ℕ) → outcome (Count n) buffer ≡ kept t old
+counted : (t : Taken) (n : ℕ) (buffer old : List ℕ) → outcome (Ok n) buffer ≡ kept t old
     → (s : List ℕ) × (t ≡ good s) × (n ≡ length s) × (buffer ≡ over s old)
-counted (good s) n buffer old e = (s, refl, cc (ap (λ (o : Outcome Progress). o.answer) e), ap (λ (o : Outcome Progress). o.output) e)
-counted (bad s) n buffer old e = clash (cc (ap (λ (o : Outcome Progress). o.answer) e))
-
-pub counted_within : (t : Taken) (n : ℕ) (buffer old : List ℕ) → outcome (Count n) buffer ≡ kept t old → n ≤ length buffer
-counted_within t n buffer old e =
-    let w = counted t n buffer old e in
-    omega (arith, w.2, ap length w.3 ∙ length-append w.0 (drop (length w.0) old))
+counted (good s) n buffer old e = (s, refl, cc (ap (λ (o : Outcome (Result ℕ BadText)). o.answer) e), ap (λ (o : Outcome (Result ℕ BadText)). o.output) e)
+counted (bad s) n buffer old e = clash (cc (ap (λ (o : Outcome (Result ℕ BadText)). o.answer) e))
 
 -- a buffer that holds the bits of a text, and then those of a text more
-pub kept_more : (limit : ℕ) (t : Taken) (n : ℕ) (buffer old more : List ℕ) {o : Outcome Progress} → outcome (Count n) buffer ≡ kept t old
+pub kept_more : (limit : ℕ) (t : Taken) (n : ℕ) (buffer old more : List ℕ) {o : Outcome (Result ℕ BadText)} → outcome (Ok n) buffer ≡ kept t old
     → o ≡ kept (taken limit (held n buffer) more) buffer → o ≡ kept (taken limit t more) old
 kept_more limit t n buffer old more e k =
     let w = counted t n buffer old e in
@@ -99,16 +94,16 @@ kept_more limit t n buffer old more e k =
     ∙ ap (λ (x : Taken). kept (taken limit x more) old) (sym w.1)
 
 -- a bad text is bad with any text more
-pub kept_bad : (limit : ℕ) (t : Taken) (buffer old more : List ℕ) → outcome Bad buffer ≡ kept t old → outcome Bad buffer ≡ kept (taken limit t more) old
-kept_bad limit (good s) buffer old more e = clash (cc (ap (λ (o : Outcome Progress). o.answer) e))
+pub kept_bad : (limit : ℕ) (t : Taken) (buffer old more : List ℕ) → outcome (Err record {}) buffer ≡ kept t old → outcome (Err record {}) buffer ≡ kept (taken limit t more) old
+kept_bad limit (good s) buffer old more e = clash (cc (ap (λ (o : Outcome (Result ℕ BadText)). o.answer) e))
 kept_bad limit (bad s) buffer old more e = e ∙ ap (λ (x : Taken). kept x old) (sym (taken_bad limit s more))
 
 -- a byte that is no character
-pub kept_stopped : (limit : ℕ) (t : Taken) (n : ℕ) (buffer old : List ℕ) → outcome (Count n) buffer ≡ kept t old
-    → outcome Bad buffer ≡ kept (taken limit t (0 ∷ [])) old
+pub kept_stopped : (limit : ℕ) (t : Taken) (n : ℕ) (buffer old : List ℕ) → outcome (Ok n) buffer ≡ kept t old
+    → outcome (Err record {}) buffer ≡ kept (taken limit t (0 ∷ [])) old
 unfolding character_of
 kept_stopped limit t n buffer old e =
     let w = counted t n buffer old e in
     let end : taken limit t (0 ∷ []) ≡ bad w.0 =
     ap (λ (x : Taken). taken limit x (0 ∷ [])) w.1 ∙ taken-one limit (good w.0) 0 ∙ next_good limit w.0 0 refl in
-    ap (outcome Bad) w.3 ∙ ap (λ (x : Taken). kept x old) (sym end)
+    ap (outcome (Err record {})) w.3 ∙ ap (λ (x : Taken). kept x old) (sym end)

@@ -70,7 +70,6 @@ one-back limit s b h k =
     ∙ ap (λ (t : Bool). cond t (good (s ++ b ∷ [])) (bad s)) (lt-ltb (length s) limit k)
 
 pub text_back : (limit : ℕ) (s u : List ℕ) → T (all_bits u) → length s + length u ≤ limit → taken limit (good s) (text_of u) ≡ good (s ++ u)
-unfolding text_of
 text_back limit s [] h k = taken-nil limit (good s) ∙ ap good (sym (append-nil s))
 text_back limit s (b ∷ u) h k =
     taken-append limit (good s) (character_for b ∷ []) (text_of u)

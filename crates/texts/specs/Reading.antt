@@ -1,11 +1,10 @@
 -- Bits read from a text, a byte at a time (document 01, "Bench sheet").
 -- Assumes nothing.
-use Rattle.std.specs.Prelude.{ℕ, cond, List, [], ◌∷◌, ◌++◌, eqb, ltb, length, take, drop}
+use Rattle.std.specs.Prelude.{ℕ, cond, List, [], ◌∷◌, ◌++◌, eqb, ltb, length, take, drop, Result, Ok, Err}
 use Rattle.refusals.specs.Outcome.{Outcome, outcome}
 use Rattle.texts.specs.declared.reading.Character.{Character}
 use Rattle.texts.specs.declared.reading.Character.TheVariants.{Bit, Skipped, Other}
-use Rattle.texts.specs.declared.reading.Progress.{Progress}
-use Rattle.texts.specs.declared.reading.Progress.TheVariants.{Count, Bad}
+use Rattle.texts.specs.declared.reading.BadText.{BadText}
 
 -- characters 0 and 1 are bits, bytes 10 and 13 are skipped
 unfoldable pub character_of : ℕ → Character
@@ -38,9 +37,10 @@ abbrev pub bits_in : Taken → List ℕ
 bits_in (good s) = s
 bits_in (bad s) = s
 
-abbrev pub progress_of : Taken → Progress
-progress_of (good s) = Count (length s)
-progress_of (bad s) = Bad
+-- how many bits were taken, or that the text is bad
+abbrev pub progress_of : Taken → Result ℕ BadText
+progress_of (good s) = Ok (length s)
+progress_of (bad s) = Err record {}
 
 -- a text that is good so far, whose bits are the first count of a buffer
 abbrev pub held : ℕ → List ℕ → Taken
@@ -51,9 +51,9 @@ abbrev pub over : List ℕ → List ℕ → List ℕ
 over s old = s ++ drop (length s) old
 
 -- the answer, and the buffer with the bits that were taken in its front
-abbrev pub kept : Taken → List ℕ → Outcome Progress
+abbrev pub kept : Taken → List ℕ → Outcome (Result ℕ BadText)
 kept t old = outcome (progress_of t) (over (bits_in t) old)
 
 -- a text is taken after the bits that the first count of a buffer hold; the limit is the buffer's length
-abbrev pub taken_into : List ℕ → ℕ → List ℕ → Outcome Progress
+abbrev pub taken_into : List ℕ → ℕ → List ℕ → Outcome (Result ℕ BadText)
 taken_into old count text = kept (taken (length old) (held count old) text) old

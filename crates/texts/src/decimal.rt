@@ -2,38 +2,22 @@
 ghost use Rattle.std.specs.Prelude.{◌≡◌};
 ghost use Rattle.texts.specs.Decimal.{decimal_of};
 
-// The number, or that the text is no such number.
-#[derive(Clone, Copy)]
-pub enum Decimal {
-    Number(u32),
-    Other,
-}
-
 // The most digits that a number has.
 pub const DIGITS: usize = 9;
 
-// The number that a text of one to nine digits is.
-pub fn number_in(text: &[u8]) -> Decimal
+// The number that a text of one to nine digits is. Another text is none.
+pub fn number_in(text: &[u8]) -> Option<u32>
     ensures { result ≡ decimal_of text.now }
 {
-    if text.len() == 0 {
-        return Decimal::Other;
+    if text.is_empty() || DIGITS < text.len() {
+        return None;
     }
-    if DIGITS < text.len() {
-        return Decimal::Other;
+    let mut number = 0;
+    for byte in text {
+        number = match byte {
+            b'0'..=b'9' => number * 10 + u32::from(byte - b'0'),
+            _ => return None,
+        };
     }
-    let mut number: u32 = 0;
-    let mut i = 0;
-    while i < text.len() {
-        let byte = text[i];
-        if byte < b'0' {
-            return Decimal::Other;
-        }
-        if b'9' < byte {
-            return Decimal::Other;
-        }
-        number = number * 10 + (byte - b'0') as u32;
-        i += 1;
-    }
-    Decimal::Number(number)
+    Some(number)
 }

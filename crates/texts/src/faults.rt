@@ -1,6 +1,6 @@
 // Where a text is bad (document 01, "Bench sheet"), and the line on standard error that says what is wrong. No contract
 // can say what is written. A line that cannot be written is left out: the answer says too that the text is bad.
-ghost use Rattle.std.specs.Prelude.{◌≡◌, ◌+◌, ◌-◌, ◌≤◌, ◌<◌, min, length};
+ghost use Rattle.std.specs.Prelude.{◌≡◌, ◌-◌, ◌≤◌, ◌<◌, length};
 ghost use Rattle.texts.specs.Faults.{good_bytes};
 
 use crate::reading::{Character, character_of};
@@ -11,10 +11,8 @@ pub fn good_bytes(text: &[u8], room: usize) -> usize
     ensures { result ≡ good_bytes room text.now }
 {
     let mut left = room;
-    let mut i = 0;
-    while i < text.len() {
-        let character = character_of(text[i]);
-        match character {
+    for (i, byte) in text.iter().enumerate() {
+        match character_of(*byte) {
             Character::Bit(_) => {
                 if left == 0 {
                     return i;
@@ -24,16 +22,8 @@ pub fn good_bytes(text: &[u8], room: usize) -> usize
             Character::Skipped => {}
             Character::Other => return i,
         }
-        i += 1;
     }
-    i
-}
-
-// The sum of two counts of bytes, or u64::MAX where that is less. No run reads so many bytes.
-pub fn plus(a: u64, b: u64) -> u64
-    ensures { result ≡ min (a + b) 18446744073709551615 }
-{
-    if b <= u64::MAX - a { a + b } else { u64::MAX }
+    text.len()
 }
 
 // The line for a byte that is no character of a text, at this place of the input, counted from 1.
@@ -58,9 +48,8 @@ pub fn print_fault(rt: &impl Eprint, part: &[u8], held: usize, limit: usize, see
 {
     let good = good_bytes(part, limit - held);
     let byte = part[good];
-    let Character::Bit(_) = character_of(byte) else {
-        print_other(rt, byte, plus(seen, good as u64 + 1));
-        return;
-    };
-    print_full(rt, limit);
+    match character_of(byte) {
+        Character::Bit(_) => print_full(rt, limit),
+        _ => print_other(rt, byte, seen.saturating_add(good as u64 + 1)),
+    }
 }

@@ -15,9 +15,5 @@ pub mod writing;
 pub fn front(buffer: &[u8], n: usize) -> &[u8]
     ensures { result.now ≡ take n buffer.now }
 {
-    if n < buffer.len() {
-        &buffer[..n]
-    } else {
-        buffer
-    }
+    &buffer[..n.min(buffer.len())]
 }

@@ -4,7 +4,7 @@ ghost use Rattle.std.specs.Prelude.{◌≡◌, ◌≤◌, [], ◌∷◌, length}
 ghost use Rattle.refusals.specs.Outcome.{outcome};
 ghost use Rattle.texts.specs.Reading.{character_of, taken_into};
 
-// What a byte of a text is.
+// What a byte of a text is: three kinds, and so no Option.
 #[derive(Clone, Copy)]
 pub enum Character {
     Bit(u8),
@@ -12,14 +12,11 @@ pub enum Character {
     Other,
 }
 
-// How many bits of a text the buffer holds, or that the text is bad.
+// That a text is bad.
 #[derive(Clone, Copy)]
-pub enum Progress {
-    Count(usize),
-    Bad,
-}
+pub struct BadText;
 
-// What a byte is.
+// What a byte is. No number or char of the library is parsed so.
 pub fn character_of(byte: u8) -> Character
     ensures { result ≡ character_of byte }
 {
@@ -31,40 +28,34 @@ pub fn character_of(byte: u8) -> Character
     }
 }
 
-// Takes one byte of a text. The first count bytes of the buffer hold the bits so far.
-pub fn take_byte(byte: u8, bits: &mut [u8], count: usize) -> Progress
+// Takes one byte of a text. The first count bytes of the buffer hold the bits so far: it is the caller's, since the programs use no heap. The answer is how many they then are.
+pub fn take_byte(byte: u8, bits: &mut [u8], count: usize) -> Result<usize, BadText>
     requires { count ≤ length bits.old }
     ensures { outcome result bits.new ≡ taken_into bits.old count (byte ∷ []) }
 {
-    let character = character_of(byte);
-    match character {
+    match character_of(byte) {
         Character::Bit(bit) => {
             if count < bits.len() {
                 bits[count] = bit;
-                let held = count + 1;
-                Progress::Count(held)
+                Ok(count + 1)
             } else {
-                Progress::Bad
+                Err(BadText)
             }
         }
-        Character::Skipped => Progress::Count(count),
-        Character::Other => Progress::Bad,
+        Character::Skipped => Ok(count),
+        Character::Other => Err(BadText),
     }
 }
 
-// Takes a text, or the next part of one. The first count bytes of the buffer hold the bits so far.
-pub fn take_text(text: &[u8], bits: &mut [u8], count: usize) -> Progress
+// Takes a text, or the next part of one. The first count bytes of the buffer hold the bits so far. The answer is how many
+// they then are.
+pub fn take_text(text: &[u8], bits: &mut [u8], count: usize) -> Result<usize, BadText>
     requires { count ≤ length bits.old }
     ensures { outcome result bits.new ≡ taken_into bits.old count text.now }
 {
     let mut held = count;
-    let mut i = 0;
-    while i < text.len() {
-        let Progress::Count(more) = take_byte(text[i], bits, held) else {
-            return Progress::Bad;
-        };
-        held = more;
-        i += 1;
+    for byte in text {
+        held = take_byte(*byte, bits, held)?;
     }
-    Progress::Count(held)
+    Ok(held)
 }

@@ -10,16 +10,15 @@ use lib.Dec.{T, eqb}
 use lib.ListN.{length, get_or}
 use Rattle.words.specs.declared.Kind.{Kind}
 use Rattle.words.specs.declared.Kind.TheVariants.{Group250, Group20, Other}
-use Rattle.words.specs.declared.Lookup.{Lookup}
-use Rattle.words.specs.declared.Lookup.TheVariants.{Number, NotInTable}
 use Rattle.words.specs.Table.{table}
-use Rattle.words.specs.Words.{word_of, in_group250, barred20, among, in_group20, kind_of, kind_number, lookup_of, is_number, in_table, one_more_if, how_many}
+use Rattle.words.specs.Words.{word_of, in_group250, barred20, among, in_group20, kind_of, kind_number, lookup_of, in_table, one_more_if, how_many}
 use Rattle.bits.proofs.Tests.{tests_agree}
 use Rattle.words.proofs.Lists.{all_below, below_at}
 use Rattle.words.proofs.Rules.{flips}
 use Rattle.words.proofs.Numbers.{lookup_word, lookup_number, lookup_absent}
 use Rattle.words.proofs.InverseTable.{says, inverse, inverse_from, inverse-tells, inverse-length}
 use Rattle.words.proofs.Groups.{not_barred, groups_disjoint}
+use Rattle.std.specs.Prelude.{Result, Ok, Err, is_ok}
 
 -- ---- counting from the front
 
@@ -54,12 +53,12 @@ tallied test k (x ∷ xs) f h =
 -- ---- the four cases
 
 -- a word of this kind was looked up
-abbrev pub is_kind : Kind → Lookup → Bool
-is_kind kind (Number i) = false
-is_kind kind (NotInTable found) = eqb (kind_number found) (kind_number kind)
+abbrev pub is_kind : Kind → Result ℕ Kind → Bool
+is_kind kind (Ok i) = false
+is_kind kind (Err found) = eqb (kind_number found) (kind_number kind)
 
 -- of how many words a test passes what is found
-by_inverse : (test : Lookup → Bool) → how_many (λ w. test (lookup_of w)) 2048 ≡ tally (λ w n. test (says w n)) 0 inverse
+by_inverse : (test : Result ℕ Kind → Bool) → how_many (λ w. test (lookup_of w)) 2048 ≡ tally (λ w n. test (says w n)) 0 inverse
 by_inverse test =
     subst (λ (n : ℕ). how_many (λ w. test (lookup_of w)) n ≡ tally (λ w n. test (says w n)) 0 inverse) inverse-length
     (tallied (λ w n. test (says w n)) 0 inverse (λ w. test (lookup_of w)) (λ i below.
@@ -68,7 +67,7 @@ by_inverse test =
 
 pub numbers-found : how_many in_table 2048 ≡ 1024
 unfolding tally inverse inverse_from table
-numbers-found = by_inverse is_number
+numbers-found = by_inverse is_ok
 
 pub group250-found : how_many (λ w. is_kind Group250 (lookup_of w)) 2048 ≡ 250
 unfolding tally inverse inverse_from table kind_of in_group250 in_group20 among barred20
@@ -88,17 +87,17 @@ others_found = by_inverse (is_kind Other)
 entry_free : (group : ℕ → Bool) (w : ℕ) → ((i : ℕ) → i < 1024 → group (word_of i) ≡ false) → group w ≡ true → in_table w ≡ false
 entry_free group w free h = go (lookup_of w) refl
   where
-    go : (r : Lookup) → lookup_of w ≡ r → is_number r ≡ false
-    go (NotInTable kind) e = refl
-    go (Number i) e =
+    go : (r : Result ℕ Kind) → lookup_of w ≡ r → is_ok r ≡ false
+    go (Err kind) e = refl
+    go (Ok i) e =
         let (below, is) = lookup_number w i e in
         absurd (true≢false (sym h ∙ ap group (sym is) ∙ free i below))
 
-pub barred250_found : (w : ℕ) → in_group250 w ≡ true → lookup_of w ≡ NotInTable Group250
+pub barred250_found : (w : ℕ) → in_group250 w ≡ true → lookup_of w ≡ Err Group250
 unfolding kind_of
 barred250_found w h = lookup_absent w (entry_free in_group250 w (λ i below. (not_barred i below).0) h) ∙ rw h
 
-pub barred20-found : (w : ℕ) → in_group20 w ≡ true → lookup_of w ≡ NotInTable Group20
+pub barred20-found : (w : ℕ) → in_group20 w ≡ true → lookup_of w ≡ Err Group20
 unfolding kind_of
 barred20-found w h = lookup_absent w (entry_free in_group20 w (λ i below. (not_barred i below).1) h) ∙ rw (groups_disjoint w h, h)
 
@@ -107,12 +106,12 @@ barred20-found w h = lookup_absent w (entry_free in_group20 w (λ i below. (not_
 flip-listed : (w : ℕ) → T (in_table w) → T (in_table (2047 - w))
 flip-listed w h = go (lookup_of w) refl h
   where
-    go : (r : Lookup) → lookup_of w ≡ r → T (is_number r) → T (in_table (2047 - w))
-    go (NotInTable kind) e t = absurd t
-    go (Number i) e t =
+    go : (r : Result ℕ Kind) → lookup_of w ≡ r → T (is_ok r) → T (in_table (2047 - w))
+    go (Err kind) e t = absurd t
+    go (Ok i) e t =
         let (below, is) = lookup_number w i e in
         let flipped : 2047 - w ≡ word_of (1023 - i) = ap (λ (v : ℕ). 2047 - v) (sym is) ∙ sym (flips i below) in
-        subst (λ (r : Lookup). T (is_number r)) (sym (ap lookup_of flipped ∙ lookup_word (1023 - i) (omega arith))) tt
+        subst (λ (r : Result ℕ Kind). T (is_ok r)) (sym (ap lookup_of flipped ∙ lookup_word (1023 - i) (omega arith))) tt
 
 pub flip-in_table : (w : ℕ) → w < 2048 → in_table (2047 - w) ≡ in_table w
 flip-in_table w h =

@@ -9,23 +9,23 @@ use native.Mathlib.Omega.{arith}
 use lib.Dec.{T, eqb, ltb}
 use lib.ListN.{length, get_or}
 use borrow.Author.Tests.{eqb-true, eqb-false, lt-ltb, le-ltb}
-use Rattle.words.specs.declared.Lookup.{Lookup}
-use Rattle.words.specs.declared.Lookup.TheVariants.{Number, NotInTable}
 use Rattle.words.specs.Table.{table}
 use Rattle.words.specs.Words.{kind_of, lookup_from, lookup_of}
 use Rattle.words.proofs.Lists.{rises, rises-first, rises_rest, rises_from}
 use Rattle.words.proofs.Rules.{table-length, table-rises}
 use Rattle.words.proofs.Numbers.{found_here, found_later, too_low}
+use Rattle.std.specs.Prelude.{Result, Ok, Err}
+use Rattle.words.specs.declared.Kind.{Kind}
 
 -- what the entry n of the inverse table says of the word w
-abbrev pub says : ℕ → ℕ → Lookup
-says w n = cond (ltb n 1024) (Number n) (NotInTable (kind_of w))
+abbrev pub says : ℕ → ℕ → Result ℕ Kind
+says w n = cond (ltb n 1024) (Ok n) (Err (kind_of w))
 
-says_number : (w n : ℕ) → n < 1024 → says w n ≡ Number n
-says_number w n h = ap (λ (b : Bool). cond b (Number n) (NotInTable (kind_of w))) (lt-ltb n 1024 h)
+says_number : (w n : ℕ) → n < 1024 → says w n ≡ Ok n
+says_number w n h = ap (λ (b : Bool). cond b (Ok n) (Err (kind_of w))) (lt-ltb n 1024 h)
 
-says_none_lem : (w n : ℕ) → 1024 ≤ n → says w n ≡ NotInTable (kind_of w)
-says_none_lem w n h = ap (λ (b : Bool). cond b (Number n) (NotInTable (kind_of w))) (le-ltb n 1024 h)
+says_none_lem : (w n : ℕ) → 1024 ≤ n → says w n ≡ Err (kind_of w)
+says_none_lem w n h = ap (λ (b : Bool). cond b (Ok n) (Err (kind_of w))) (le-ltb n 1024 h)
 
 -- the word w is the first entry of l
 abbrev head_is : ℕ → List ℕ → Bool
@@ -93,10 +93,10 @@ inverse-tells w h =
     subst (λ (v : ℕ). lookup_from 0 table v ≡ says v (get_or (inverse_from 2048 0 0 table) w 0)) e
     (tells 2048 0 0 table table-rises (omega (arith, table-length)) w h)
 
-pub inverse_number : (w : ℕ) → w < 2048 → get_or inverse w 0 < 1024 → Number (get_or inverse w 0) ≡ lookup_of w
+pub inverse_number : (w : ℕ) → w < 2048 → get_or inverse w 0 < 1024 → Ok (get_or inverse w 0) ≡ lookup_of w
 inverse_number w h p = sym (inverse-tells w h ∙ says_number w (get_or inverse w 0) p)
 
-pub inverse-none : (w : ℕ) → w < 2048 → 1024 ≤ get_or inverse w 0 → NotInTable (kind_of w) ≡ lookup_of w
+pub inverse-none : (w : ℕ) → w < 2048 → 1024 ≤ get_or inverse w 0 → Err (kind_of w) ≡ lookup_of w
 inverse-none w h p = sym (inverse-tells w h ∙ says_none_lem w (get_or inverse w 0) p)
 
 from_length : (c w i : ℕ) (l : List ℕ) → length (inverse_from c w i l) ≡ c

@@ -1,5 +1,5 @@
-pub mod Lists
 pub mod Arms
+pub mod Lists
 pub mod Rules
 pub mod Numbers
 pub mod InverseTable

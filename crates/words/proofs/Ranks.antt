@@ -13,12 +13,12 @@ use lib.Pow.{suc_ones, shl_exact, shr_lt, shr_le}
 use borrow.Author.Tests.{ltb-true, ltb-false}
 use Rattle.words.specs.Table.{table}
 use Rattle.words.specs.PartsOf64.{present, before}
-use Rattle.words.specs.declared.Lookup.TheVariants.{Number, NotInTable}
-use Rattle.words.specs.Words.{kind_of, lookup_of, is_number, in_table}
+use Rattle.words.specs.Words.{kind_of, lookup_of, in_table}
 use Rattle.bits.proofs.And.{and_left, and_right}
 use Rattle.words.proofs.Lists.{each_from, each_at}
 use Rattle.words.proofs.Numbers.{lookup_wide}
 use Rattle.words.proofs.InverseTable.{inverse, inverse_from, inverse-length, inverse_number, inverse-none}
+use Rattle.std.specs.Prelude.{Ok, Err, is_ok}
 
 -- as the code has them, where x has the bits of the word's part, and y words of the table are below the part: the word's bit, the
 -- divisor that leaves the bits below it, those bits, and the rank
@@ -85,8 +85,8 @@ tells_number (suc b) n k d t =
 
 -- what the bit and the rank tell of a number w
 pub record Told (x y w : ℕ) : Type 0 where
-  pub absent : bit_at x w ≡ 0 → NotInTable (kind_of w) ≡ lookup_of w
-  pub ranked : (bit_at x w ≡ 0 → ⊥) → (rank x y w < 1024) × (Number (rank x y w) ≡ lookup_of w)
+  pub absent : bit_at x w ≡ 0 → Err (kind_of w) ≡ lookup_of w
+  pub ranked : (bit_at x w ≡ 0 → ⊥) → (rank x y w < 1024) × (Ok (rank x y w) ≡ lookup_of w)
   pub most : y ≤ 1024
 
 -- of a word
@@ -102,13 +102,13 @@ module _ (w x : ℕ) (h : w < 2048) (p : x ≡ get_or present (w / 64) 0) where
       told : T (tells (bit_at x w) (get_or inverse w 0) (rank_in x y w))
       told = and_right (leb y 1024) _ agreed
 
-      absent : bit_at x w ≡ 0 → NotInTable (kind_of w) ≡ lookup_of w
+      absent : bit_at x w ≡ 0 → Err (kind_of w) ≡ lookup_of w
       absent e = inverse-none w h (omega (arith, tells_none (bit_at x w) (get_or inverse w 0) (rank_in x y w) e told))
 
-      ranked : (bit_at x w ≡ 0 → ⊥) → (rank x y w < 1024) × (Number (rank x y w) ≡ lookup_of w)
+      ranked : (bit_at x w ≡ 0 → ⊥) → (rank x y w < 1024) × (Ok (rank x y w) ≡ lookup_of w)
       ranked d =
           let found = tells_number (bit_at x w) (get_or inverse w 0) (rank_in x y w) d told in
-          (omega (arith, ranks x y w), ap (λ (n : ℕ). Number n) (ranks x y w ∙ sym found.1) ∙ inverse_number w h found.0)
+          (omega (arith, ranks x y w), ap Ok (ranks x y w ∙ sym found.1) ∙ inverse_number w h found.0)
 
   -- the bit tells whether the table has it
   pub bit_tells : eqb (bit_at x w) 1 ≡ in_table w
@@ -118,8 +118,8 @@ module _ (w x : ℕ) (h : w < 2048) (p : x ≡ get_or present (w / 64) 0) where
       told = word_told (get_or before (w / 64) 1024) refl
 
       go : (b : ℕ) → bit_at x w ≡ b → eqb b 1 ≡ in_table w
-      go zero e = ap is_number (told.absent e)
-      go (suc zero) e = ap is_number (told.ranked (λ z. omega arith)).1
+      go zero e = ap is_ok (told.absent e)
+      go (suc zero) e = ap is_ok (told.ranked (λ z. omega arith)).1
       go (suc (suc b)) e = absurd (omega arith)
 
 -- of a number of twelve bits or more: its part has no words, and the whole table is below it
@@ -141,7 +141,7 @@ module _ (w x : ℕ) (h : 2048 ≤ w) (p : x ≡ get_or present (w / 64) 0) wher
       }
 
   wide_tells : eqb (bit_at x w) 1 ≡ in_table w
-  wide_tells = ap (λ (b : ℕ). eqb b 1) wide_bit ∙ ap is_number (sym (lookup_wide w h))
+  wide_tells = ap (λ (b : ℕ). eqb b 1) wide_bit ∙ ap is_ok (sym (lookup_wide w h))
 
 -- of any number
 module _ (w x : ℕ) (p : x ≡ get_or present (w / 64) 0) where

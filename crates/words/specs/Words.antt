@@ -1,11 +1,9 @@
 -- The words (document 01, "Words"; document 02, No. 13): the word of a number, the barred words, and the number or the kind of a word.
 -- Assumes nothing.
-use Rattle.std.specs.Prelude.{ℕ, zero, suc, ◌/◌, ◌%◌, ◌^◌, Bool, true, false, cond, ◌&&◌, ◌||◌, List, [], ◌∷◌, eqb, ltb, get_or}
+use Rattle.std.specs.Prelude.{ℕ, zero, suc, ◌/◌, ◌%◌, ◌^◌, Bool, true, false, cond, ◌&&◌, ◌||◌, List, [], ◌∷◌, eqb, ltb, get_or, Result, Ok, Err, is_ok}
 use Rattle.bits.specs.Bits.{number_of}
 use Rattle.words.specs.declared.Kind.{Kind}
 use Rattle.words.specs.declared.Kind.TheVariants.{Group250, Group20, Other}
-use Rattle.words.specs.declared.Lookup.{Lookup}
-use Rattle.words.specs.declared.Lookup.TheVariants.{Number, NotInTable}
 use Rattle.words.specs.Table.{table}
 
 -- the word of the number i: entry i of the table
@@ -54,30 +52,26 @@ kind_number Group20 = 20
 kind_number Other = 0
 
 -- the place of the word w in the list, counted from i; where it is not in it, its kind
-unfoldable pub lookup_from : ℕ → List ℕ → ℕ → Lookup
-lookup_from i [] w = NotInTable (kind_of w)
-lookup_from i (x ∷ xs) w = cond (eqb x w) (Number i) (lookup_from (suc i) xs w)
+unfoldable pub lookup_from : ℕ → List ℕ → ℕ → Result ℕ Kind
+lookup_from i [] w = Err (kind_of w)
+lookup_from i (x ∷ xs) w = cond (eqb x w) (Ok i) (lookup_from (suc i) xs w)
 
 -- the number of the word w, found by going through the table from the front, or its kind
-unfoldable pub lookup_of : ℕ → Lookup
+unfoldable pub lookup_of : ℕ → Result ℕ Kind
 lookup_of w = lookup_from 0 table w
 
 -- whether the word w is in the table
-abbrev pub is_number : Lookup → Bool
-is_number (Number i) = true
-is_number (NotInTable kind) = false
-
 abbrev pub in_table : ℕ → Bool
-in_table w = is_number (lookup_of w)
+in_table w = is_ok (lookup_of w)
 
 -- the eleven bits are a word of the table
 unfoldable pub is_word : List ℕ → Bool
 is_word w = in_table (number_of w)
 
 -- the number of a word that the table has, else 0
-abbrev pub number_in : Lookup → ℕ
-number_in (Number i) = i
-number_in (NotInTable kind) = 0
+abbrev pub number_in : Result ℕ Kind → ℕ
+number_in (Ok i) = i
+number_in (Err kind) = 0
 
 abbrev pub one_more_if : Bool → ℕ → ℕ
 one_more_if true n = suc n

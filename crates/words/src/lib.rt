@@ -11,6 +11,7 @@ mod barred;
 mod parts;
 mod table;
 
+use std::fmt;
 use table::TABLE;
 
 // What a word is that the table does not have (document 02, No. 13): in the group of 250 barred words, in the group of 20, or simply
@@ -20,13 +21,6 @@ pub enum Kind {
     Group250,
     Group20,
     Other,
-}
-
-// What looking a word up finds: its number, or the kind of a word that the table does not have.
-#[derive(Clone, Copy)]
-pub enum Lookup {
-    Number(u16),
-    NotInTable(Kind),
 }
 
 // A word of a telegram that the table does not have: its kind, and its index among the words, from 0 at the left.
@@ -99,7 +93,7 @@ fn kind_marked(rank: u16) -> Kind
 
 // The number of a word: how many words of the table are below it, since the table rises; or its kind. With the mark of a word that the
 // table does not have, the sum alone decides, and no branch waits for the word's bits.
-pub fn look_up(word: u16) -> Lookup
+pub fn look_up(word: u16) -> Result<u16, Kind>
     ensures { result ≡ lookup_of word }
 {
     let part = parts::part_at(word / 64);
@@ -110,11 +104,10 @@ pub fn look_up(word: u16) -> Lookup
     let mark = absent + (barred.group_20 >> place) % 2 + 2 * ((barred.group_250 >> place) % 2);
     let below = u64::count_ones(words % (1u64 << place)) as u16;
     let rank = part.before + below + 2048 * (mark as u16);
-    let kind = kind_marked(rank);
     if rank < 2048 {
-        return Lookup::Number(rank);
+        return Ok(rank);
     }
-    Lookup::NotInTable(kind)
+    Err(kind_marked(rank))
 }
 
 // Whether a word is in the table.
@@ -130,39 +123,17 @@ pub fn in_table(word: u16) -> bool
 pub fn in_group_250(word: u16) -> bool
     ensures { result ≡ in_group250 word }
 {
-    if 2048 <= word {
-        return false;
-    }
-    let first = word / 64;
-    if first == 0b00000 {
-        return true;
-    }
-    if first == 0b11111 {
-        return true;
-    }
-    let last = word % 32;
-    if last == 0b00000 {
-        return true;
-    }
-    if last == 0b11111 {
-        return true;
-    }
-    if word == 0b10000000001 {
-        return true;
-    }
-    word == 0b01111111110
+    word < 2048
+        && (matches!(word / 64, 0b00000 | 0b11111)
+            || matches!(word % 32, 0b00000 | 0b11111)
+            || matches!(word, 0b10000000001 | 0b01111111110))
 }
 
 // Whether a word is in the group of 20 barred words.
 pub fn in_group_20(word: u16) -> bool
     ensures { result ≡ in_group20 word }
 {
-    for i in 0..20 {
-        if BARRED[i] == word {
-            return true;
-        }
-    }
-    false
+    BARRED.contains(&word)
 }
 
 // The kind of a word that the table does not have.
@@ -180,13 +151,26 @@ pub fn kind_of(word: u16) -> Kind
     Kind::Other
 }
 
-// The kind's number: how many words its group has, and 0 where it is no group.
-pub fn kind_number(kind: Kind) -> u16
-    ensures { result ≡ kind_number kind }
-{
-    match kind {
-        Kind::Group250 => 250,
-        Kind::Group20 => 20,
-        Kind::Other => 0,
+impl Kind {
+    // The kind's number: how many words its group has, and 0 where it is no group. A method and not a From, as that of a refusal.
+    pub fn number(self) -> u16
+        ensures { result ≡ kind_number self }
+    {
+        match self {
+            Kind::Group250 => 250,
+            Kind::Group20 => 20,
+            Kind::Other => 0,
+        }
+    }
+}
+
+// The kind's word (document 01, "Bench sheet").
+impl fmt::Display for Kind {
+    fn fmt<W: fmt::Write>(&self, f: &mut fmt::Formatter<W>) -> fmt::Result {
+        match self {
+            Kind::Group250 => write!(f, "250"),
+            Kind::Group20 => write!(f, "20"),
+            Kind::Other => write!(f, "other"),
+        }
     }
 }

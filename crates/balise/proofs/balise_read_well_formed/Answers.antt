@@ -2,13 +2,8 @@
 use Rattle.reader.specs.declared.Asked.TheVariants.{WellFormed}
 use Rattle.reader.specs.Reads.{read_values}
 use Rattle.balise.specs.AsNumber.{read_sizes}
-use Rattle.balise.proofs.Answers.{answer_fits, answer_packed, read_fits}
+use Rattle.balise.proofs.Answers.{answer_fits, read_fits}
 use Rattle.balise.proofs.balise_read_well_formed.Goals as goal
 
 pub read-requires : goal.read-requires
 read-requires c = answer_fits read_sizes read_values c.read_well_formed-answer.ensures (read_fits WellFormed _ _)
-
-pub returns : goal.returns
-returns c =
-    let (answers, writes) = answer_packed read_sizes read_values c.read_well_formed-answer.ensures c.read.ensures in
-    record { answers = answers; writes = writes }

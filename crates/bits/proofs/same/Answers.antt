@@ -1,18 +1,19 @@
--- `bits::same` meets its contract: a test that holds of equal lists and of no others is `same`. Assumes nothing.
-use mathlib.Core.Path.{◌≡◌, refl, sym}
-use mathlib.Core.Bool.{Bool, true, false}
-use mathlib.Core.List.{List}
+-- `bits::same` meets its contract: two slices are equal where they are as long and equal place by place. Assumes nothing.
+use mathlib.Core.Path.{◌≡◌, refl, ap, ◌∙◌}
+use mathlib.Core.Bool.{Bool, ◌&&◌}
+use mathlib.Core.List.{List, [], ◌∷◌}
 use Prim.Native.Nat.{ℕ}
+use lib.Dec.{eqb}
+use lib.Pointwise.{pointwise}
 use Rattle.bits.specs.Bits.{same}
-use Rattle.bits.proofs.Equal.{equal_same, other_same}
-use Rattle.bits.proofs.Tests.{fails}
 use Rattle.bits.proofs.same.Goals as goal
 
-agrees : (r : Bool) (u v : List ℕ) → (r ≡ true → u ≡ v) × (u ≡ v → r ≡ true) → r ≡ same u v
-agrees true u v h = sym (equal_same u v (h.0 refl))
-agrees false u v h = sym (other_same u v (λ e. fails true (sym (h.1 e)) tt))
+pointwise-same : (u v : List ℕ) → pointwise eqb u v ≡ same u v
+unfolding same
+pointwise-same [] [] = refl
+pointwise-same [] (b ∷ v) = refl
+pointwise-same (a ∷ u) [] = refl
+pointwise-same (a ∷ u) (b ∷ v) = ap (λ (t : Bool). eqb a b && t) (pointwise-same u v)
 
 pub returns : goal.returns
-returns c =
-    let a = c.args in
-    agrees c.same.result a.a.now a.b.now c.same.ensures
+returns c = c.eq.ensures ∙ pointwise-same c.args.a.now c.args.b.now

@@ -8,27 +8,20 @@ use lib.ListN.{drop}
 use Rattle.bits.specs.Bits.{bits_of}
 use Rattle.bits.proofs.Numbers.{bits_of-zero, bits_of-suc}
 use Rattle.bits.proofs.Rest.{count_more, count_done}
-use Rattle.bits.proofs.Writer.{written_none, written_more, written_done}
+use Rattle.bits.proofs.Writer.{written_more, written_done}
 use Rattle.bits.proofs.write_number.Goals as goal
-
-pub loop-i-init : goal.loop-i-init
-loop-i-init c = (omega arith, written_none (ap (λ (n : ℕ). bits_of n c.args.x) (omega arith)))
 
 pub loop-i-preserved : goal.loop-i-preserved
 loop-i-preserved c =
     let k = c.args.k in
-    let x = c.args.x in (
-      omega arith,
-      written_more c.loop-i.invariant.1 (omega arith) (ap (λ (n : ℕ). bits_of n x) (count_more c.loop-i-test.true) ∙ bits_of-suc (k - (c.loop-i.i + 1)) x),
-    )
-
-pub shape_of-out : goal.shape_of-out
-shape_of-out c = c.loop-i.invariant.1.same
+    let x = c.args.x in
+    written_more c.loop-i.invariant (omega arith)
+    (ap (λ (n : ℕ). bits_of n x) (count_more c.loop-i-test.true) ∙ bits_of-suc (k - (c.loop-i.i + 1)) x)
 
 pub returns : goal.returns
 returns c =
     let k = c.args.k in
     let x = c.args.x in
     let all : c.loop-i.i ≡ k = omega arith in
-    written_done c.loop-i.invariant.1 (ap (λ (n : ℕ). bits_of n x) (count_done c.loop-i-test.false) ∙ bits_of-zero x)
+    written_done c.loop-i.invariant (ap (λ (n : ℕ). bits_of n x) (count_done c.loop-i-test.false) ∙ bits_of-zero x)
     ∙ ap (λ (n : ℕ). bits_of k x ++ drop n c.args.out.now) all

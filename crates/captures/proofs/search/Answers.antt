@@ -2,9 +2,11 @@
 use mathlib.Core.Path.{sym, ap, ◌∙◌}
 use lib.Dec.{lit≤}
 use Rattle.refusals.specs.Outcome.{Outcome}
-use Rattle.captures.specs.declared.Capture.{Capture}
 use Rattle.captures.proofs.Steps.{same_answer}
 use Rattle.captures.proofs.search.Goals as goal
+use Rattle.std.specs.Prelude.{Result}
+use Rattle.captures.specs.declared.Found.{Found}
+use Rattle.refusals.specs.declared.Refusal.{Refusal}
 
 pub returns : goal.returns
-returns c = sym (ap (λ (x : Outcome Capture). x.answer) c.search_read.ensures) ∙ same_answer _ _ (lit≤ tt)
+returns c = sym (ap (λ (x : Outcome (Result Found Refusal)). x.answer) c.search_read.ensures) ∙ same_answer _ _ (lit≤ tt)

@@ -1,13 +1,8 @@
 -- `captures::search_bits` meets its contract. The loop's invariant: read accepts at none of the places passed, and the output is as it was.
 -- Assumes nothing.
 use mathlib.Core.Path.{◌≡◌}
-use Prim.Native.Nat.{◌-◌, ◌≤◌}
-use lib.ListN.{length}
 use Rattle.captures.proofs.Places.{Passed}
 use Rattle.captures.proofs.search_bits.Given as goal
 
 abbrev pub invariant-loop-place : goal.invariant-loop-place
-invariant-loop-place l = (l.place ≤ length l.capture) × (l.output ≡ l.initial.output) × Passed l.capture l.place
-
-abbrev pub decreases-loop-place : goal.decreases-loop-place
-decreases-loop-place l = length l.capture - l.place
+invariant-loop-place l = (l.output ≡ l.initial.output) × Passed l.capture l.place

@@ -6,14 +6,14 @@ use Rattle.formats.specs.declared.format.Format.{Format}
 use Rattle.refusals.specs.declared.Refusal.{Refusal}
 use Rattle.refusals.specs.Table.{Verdict, answer_by}
 use Rattle.refusals.proofs.Table.{Decides, passed, failed, all_passed}
-use Rattle.conditions.specs.declared.Failing.TheVariants.{First, None}
 use Rattle.conditions.specs.FirstFailing.{condition_table, first_failing}
 use Rattle.conditions.proofs.FirstFailing.{failing_is}
 use Rattle.conditions.proofs.first_failing.Goals as goal
+use Rattle.std.specs.Prelude.{Ok, Err}
 
 -- the answer by the verdict
-answered : (format : Format) (b : List ℕ) (v : Verdict Refusal) → Decides (condition_table format b) v → answer_by First None v ≡ first_failing format b
-answered format b v d = ap (answer_by First None) (sym d.verdict_is) ∙ sym (failing_is _ _)
+answered : (format : Format) (b : List ℕ) (v : Verdict Refusal) → Decides (condition_table format b) v → answer_by Err (Ok (tt {0})) v ≡ first_failing format b
+answered format b v d = ap (answer_by Err (Ok (tt {0}))) (sym d.verdict_is) ∙ sym (failing_is _ _)
 
 pub returns-then-not-within : goal.returns-then-not-within
 unfolding condition_table

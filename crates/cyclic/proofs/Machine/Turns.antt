@@ -10,7 +10,6 @@ use Rattle.formats.specs.declared.format.Format.{Format}
 use Rattle.formats.specs.declared.format.Format.TheVariants.{Long, Short}
 use Rattle.formats.specs.Numbers.{numbers_of, f_of, g_of}
 use Rattle.formats.specs.Polynomial.{polynomial, coefficients_below, coefficient_of, sum}
-use Rattle.cyclic.specs.declared.Turn.TheVariants.{At, Nothing}
 use Rattle.cyclic.specs.Check.{turn_remainder, leaves, turn_from, turn_of}
 use Rattle.cyclic.specs.Machine.{step_v}
 use Rattle.cyclic.specs.Remainder.{remainder, remainder_from, step}
@@ -18,6 +17,7 @@ use Rattle.cyclic.proofs.Formats.{facts_of}
 use Rattle.cyclic.proofs.Laws.{bits_turn, length-turn, turn-next}
 use Rattle.cyclic.proofs.Machine.Bridge.{step_number}
 use Rattle.cyclic.proofs.Machine.Divisors.{divisor_rest, divisor_degree}
+use Rattle.std.specs.Prelude.{Some, None}
 
 -- the remainder of turn 0
 pub unturned-long : 771 ≡ number_of (turn_remainder (numbers_of Long) 0)
@@ -80,10 +80,10 @@ module _ {x : Format} {divisor n first : ℕ} (k : Serves x divisor n first) whe
         search = left_fewer t.search (omega (arith, k.telegram)) (missed x s t.register fits other);
       }
 
-  pub turning_found : {r w s : ℕ} → s < n → w ≡ r → Turning x r w s → At s ≡ turn_of (numbers_of x) (bits_of 10 r)
+  pub turning_found : {r w s : ℕ} → s < n → w ≡ r → Turning x r w s → Some s ≡ turn_of (numbers_of x) (bits_of 10 r)
   unfolding turn_of
   turning_found {s} h e t = sym (ap turn_from (left-found t.search (omega (arith, k.telegram)) (hit x s t.register e)))
 
-  pub turning_over : {r w s : ℕ} → n ≤ s → Turning x r w s → Nothing ≡ turn_of (numbers_of x) (bits_of 10 r)
+  pub turning_over : {r w s : ℕ} → n ≤ s → Turning x r w s → None ≡ turn_of (numbers_of x) (bits_of 10 r)
   unfolding turn_of
   turning_over h t = sym (ap turn_from (left-none t.search (omega (arith, k.telegram))))

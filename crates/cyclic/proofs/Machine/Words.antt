@@ -19,7 +19,7 @@ times_fits (suc zero) x hc h = omega arith
 times_fits (suc (suc c)) x hc h = absurd (omega arith)
 
 -- the sum of two registers is made word by word
-pub sum_words : (high low high' low' : ℕ) → low < 2 ^ 64 → low' < 2 ^ 64
+sum_words : (high low high' low' : ℕ) → low < 2 ^ 64 → low' < 2 ^ 64
     → bit_xor high high' * 2 ^ 64 + bit_xor low low' ≡ bit_xor (high * 2 ^ 64 + low) (high' * 2 ^ 64 + low')
 sum_words high low high' low' h h' = sym (xor_block 64 high high' low low' h h')
 

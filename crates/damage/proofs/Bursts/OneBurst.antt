@@ -21,7 +21,6 @@ use Rattle.cyclic.specs.Remainder.{remainder}
 use Rattle.cyclic.proofs.Laws.{Facts, Bits, zeros}
 use Rattle.cyclic.proofs.Formats.{facts_of}
 use Rattle.reader.specs.declared.Asked.{Asked}
-use Rattle.reader.specs.declared.ReadAnswer.TheVariants.{Refused}
 use Rattle.reader.specs.Windows.{cut}
 use Rattle.reader.specs.Reads.{ends_agree}
 use Rattle.reader.proofs.Ends.{ends_agree_lem, ends_differ, ends_repeat}
@@ -32,6 +31,7 @@ use Rattle.damage.proofs.Windows.{not_divided, Whole, cut_whole}
 use Rattle.damage.proofs.Pairs.{ends_paired}
 use Rattle.damage.proofs.Readers.{given_5, given_6}
 use Rattle.damage.proofs.Places.{same-front, same_back, same-around}
+use Rattle.std.specs.Prelude.{Err}
 
 module _ (F : Numbers) (S : Sizes F) (A : Facts F) (w v : List ℕ) (whole : Whole F w) (burst : Burst burst_limit w v) where
   -- ---- the ends
@@ -113,11 +113,11 @@ module _ (asked : Asked) (format : Format) (w v out : List ℕ) (whole : Whole (
   bits = is_true (all_bits v) burst.bits
 
   -- 5 where the ends differ
-  refused_5 : ends_agree (numbers_of format) v ≡ false → read_with the_tests asked v out ≡ outcome (Refused EndsDiffer) out
+  refused_5 : ends_agree (numbers_of format) v ≡ false → read_with the_tests asked v out ≡ outcome (Err EndsDiffer) out
   refused_5 differ = given_5 the_tests asked format v out size bits room differ
 
   -- 6 where no bit of them is changed
-  refused_6 : NoneAtEnds → read_with the_tests asked v out ≡ outcome (Refused NotDivisible) out
+  refused_6 : NoneAtEnds → read_with the_tests asked v out ≡ outcome (Err NotDivisible) out
   refused_6 none =
       let F = numbers_of format in
       let S = sizes_of format in
@@ -137,7 +137,7 @@ module _ (asked : Asked) (format : Format) (w v out : List ℕ) (whole : Whole (
       unchanged_ends = ends_unchanged (numbers_of format) (sizes_of format) (facts_of format) w v whole burst
 
       by_ends : (t : Bool) → ends_agree (numbers_of format) v ≡ t
-          → (read_with the_tests asked v out ≡ outcome (Refused EndsDiffer) out) ⊎ (read_with the_tests asked v out ≡ outcome (Refused NotDivisible) out)
+          → (read_with the_tests asked v out ≡ outcome (Err EndsDiffer) out) ⊎ (read_with the_tests asked v out ≡ outcome (Err NotDivisible) out)
       by_ends true e = inr (refused_6 (unchanged_ends (ends_repeat (numbers_of format) v e)))
       by_ends false e = inl (refused_5 e)
 

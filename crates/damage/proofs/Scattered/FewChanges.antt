@@ -19,14 +19,12 @@ use Rattle.formats.specs.Numbers.{Numbers, long, numbers_of, window_bits, g_of}
 use Rattle.formats.proofs.Sizes.{Sizes, sizes_of}
 use Rattle.refusals.specs.declared.Refusal.{Refusal}
 use Rattle.refusals.specs.declared.Refusal.TheVariants.{EndsDiffer, NotDivisible, NoTurn}
-use Rattle.cyclic.specs.declared.Turn.TheVariants.{Nothing}
 use Rattle.cyclic.specs.Remainder.{remainder}
 use Rattle.cyclic.specs.Check.{divisible}
 use Rattle.cyclic.proofs.Laws.{Facts, zeros}
 use Rattle.cyclic.proofs.Formats.{facts_of}
 use Rattle.refusals.specs.Outcome.{outcome}
 use Rattle.reader.specs.declared.Asked.{Asked}
-use Rattle.reader.specs.declared.ReadAnswer.TheVariants.{Refused}
 use Rattle.reader.specs.Windows.{cut}
 use Rattle.reader.specs.Reads.{ends_agree, turn_found}
 use Rattle.reader.proofs.Ends.{ends_agree_lem, ends_differ, ends_repeat}
@@ -39,6 +37,7 @@ use Rattle.damage.proofs.Scattered.Distance.{near_equal}
 use Rattle.damage.proofs.Windows.{divided_of, is_divided, Whole, cut_whole, rounds_whole, rounds_turn}
 use Rattle.damage.proofs.Pairs.{ends_paired, paired_ends}
 use Rattle.damage.proofs.Readers.{given_5, given_6, given_7, refused_with_lem}
+use Rattle.std.specs.Prelude.{None, Err}
 
 -- a window with at most d bits changed, that passes both tests, is the true one
 passes_unchanged : (F : Numbers) → Sizes F → Facts F → (d : ℕ) → Roots F d → (w v : List ℕ) → Whole F w → (k : ℕ) → k ≤ d → Scattered k w v
@@ -66,7 +65,7 @@ module _ (asked : Asked) (format : Format) (w v out : List ℕ) (whole : Whole (
   bits = is_true (all_bits v) changed.bits
 
   -- 5 where the ends differ
-  refused_5 : (numbers_of format).m ≤ length out → ends_agree (numbers_of format) v ≡ false → read_with the_tests asked v out ≡ outcome (Refused EndsDiffer) out
+  refused_5 : (numbers_of format).m ≤ length out → ends_agree (numbers_of format) v ≡ false → read_with the_tests asked v out ≡ outcome (Err EndsDiffer) out
   refused_5 room e = given_5 the_tests asked format v out size bits room e
 
   -- both tests hold only where nothing is changed
@@ -84,7 +83,7 @@ module _ (asked : Asked) (format : Format) (w v out : List ℕ) (whole : Whole (
         is_false t (λ d. omega (arith, changed.changes, ap (differences w) (same_of e (is_true t d)), differences_self w))
 
     -- 6 where the ends agree
-    refused_6 : (numbers_of format).m ≤ length out → ends_agree (numbers_of format) v ≡ true → read_with the_tests asked v out ≡ outcome (Refused NotDivisible) out
+    refused_6 : (numbers_of format).m ≤ length out → ends_agree (numbers_of format) v ≡ true → read_with the_tests asked v out ≡ outcome (Err NotDivisible) out
     refused_6 room e = given_6 the_tests asked format v out size bits room e (divided_not e)
 
     by_ends : (numbers_of format).m ≤ length out → (t : Bool) → ends_agree (numbers_of format) v ≡ t
@@ -112,7 +111,7 @@ module _ (asked : Asked) (format : Format) (w v out : List ℕ) (whole : Whole (
       (λ room. by_ends some room (ends_agree (numbers_of format) v) refl))
 
   -- where the true window has no turn there is 7 beside
-  unturned_refused : turn_found (numbers_of format) w ≡ Nothing
+  unturned_refused : turn_found (numbers_of format) w ≡ None
       → ScatteredRefused (EndsDiffer ∷ NotDivisible ∷ NoTurn ∷ []) format k w v out (read_with the_tests asked v out)
   unturned_refused none =
       told (EndsDiffer ∷ NotDivisible ∷ NoTurn ∷ [])
@@ -128,8 +127,8 @@ module _ (asked : Asked) (format : Format) (w v out : List ℕ) (whole : Whole (
           inr (inr (inl (given_7 the_tests asked format v out size bits room e d (ap (turn_found (numbers_of format)) (same_of e d) ∙ none))))
 
 -- a window without damage that has no turn
-unturned : (asked : Asked) (format : Format) (w out : List ℕ) → Whole (numbers_of format) w → turn_found (numbers_of format) w ≡ Nothing
-    → (numbers_of format).m ≤ length out → read_with the_tests asked w out ≡ outcome (Refused NoTurn) out
+unturned : (asked : Asked) (format : Format) (w out : List ℕ) → Whole (numbers_of format) w → turn_found (numbers_of format) w ≡ None
+    → (numbers_of format).m ≤ length out → read_with the_tests asked w out ≡ outcome (Err NoTurn) out
 unturned asked format w out whole none room =
     let F = numbers_of format in
     given_7 the_tests asked format w out whole.size (is_true (all_bits w) whole.bits) room (ends_agree_lem F w whole.ends)

@@ -8,13 +8,13 @@ use Rattle.encoder.proofs.write_found.Goals as goal
 pub returns-in_default : goal.returns-in_default
 returns-in_default c =
     let a = c.args in
-    none_refused a.format a.block.now a.output.now c.requires.clean_block
-    (searched_none (first_pair a.format a.block.now) (sym c.requires.first_value ∙ c.in_default.is))
+    none_refused a.block.format a.block.bits.now a.output.now (record { bits = c.args.block.are_bits; size = c.args.block.size; room = c.requires.room })
+    (searched_none (first_pair a.block.format a.block.bits.now) (sym c.requires.first_value ∙ c.in_default.is))
 
 pub returns : goal.returns
 returns c =
     let a = c.args in
-    let B = c.in-Pair.scrambling in
-    let esb = c.in-Pair.shaping in
-    let found = searched_pair (first_pair a.format a.block.now) B esb (sym c.requires.first_value ∙ c.in-Pair.is) in
-    rw c.make.ensures (pair_given a.format a.block.now a.output.now c.requires.clean_block B esb found.0 found.1)
+    let B = c.in-Some.pair.scrambling in
+    let esb = c.in-Some.pair.shaping in
+    let found = searched_pair (first_pair a.block.format a.block.bits.now) B esb (sym c.requires.first_value ∙ c.in-Some.is) in
+    rw c.make.ensures (pair_given a.block.format a.block.bits.now a.output.now (record { bits = c.args.block.are_bits; size = c.args.block.size; room = c.requires.room }) B esb found.0 found.1)

@@ -4,9 +4,9 @@ use Rattle.formats.specs.declared.format.Format.{Format}
 use Rattle.formats.specs.Numbers.{numbers_of}
 use Rattle.layers.proofs.balise_layers_thinned_out.Goals as goal
 
-pub within-requires : goal.within-requires
-within-requires c =
-    (c.requires.0, c.requires.1 ∙ ap (λ (x : Format). (numbers_of x).n) (sym c.format_of-format.ensures))
+pub invariant_of-within : goal.invariant_of-within
+invariant_of-within c =
+    record { are_bits = c.requires.0; size = c.requires.1 ∙ ap (λ (x : Format). (numbers_of x).n) (sym c.format_of-format.ensures) }
 
 pub returns : goal.returns
 returns c = cc

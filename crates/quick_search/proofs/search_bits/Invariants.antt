@@ -12,8 +12,8 @@ use Rattle.quick_search.proofs.search_bits.Given as goal
 
 abbrev pub invariant-loop-long : goal.invariant-loop-long
 invariant-loop-long l =
-    (l.output ≡ l.initial.output) × Stands Long l.capture l.long l.long_refused × Stands Short l.capture l.short l.short_refused
+    (l.output ≡ l.initial.output) × Stands Long l.capture l.long.place l.long.refused × Stands Short l.capture l.short.place l.short.refused
 
 abbrev pub decreases-loop-long : goal.decreases-loop-long
 decreases-loop-long l =
-    (length l.capture - l.long) + (length l.capture - l.short)
+    (length l.capture - l.long.place) + (length l.capture - l.short.place)

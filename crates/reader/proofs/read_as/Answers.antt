@@ -33,12 +33,12 @@ returns-then-not-all_bits c =
     ∙ bits_refused a.asked c.of_length-format.result a.window.now a.output.now (size)
     (sym c.all_bits.ensures ∙ c.if-not-all_bits.true)
 
-pub read_bits-requires : goal.read_bits-requires
-read_bits-requires c =
+pub invariant_of-read_bits : goal.invariant_of-read_bits
+invariant_of-read_bits c =
     let size : length c.args.window.now ≡ window_bits (numbers_of c.of_length-format.result) = omega arith in
     let w = c.args.window.now in record {
-      t = holds (all_bits w) (sym c.all_bits.ensures ∙ c.if-not-all_bits.false);
-      window_len = size;
+      are_bits = holds (all_bits w) (sym c.all_bits.ensures ∙ c.if-not-all_bits.false);
+      size = size;
     }
 
 pub returns : goal.returns

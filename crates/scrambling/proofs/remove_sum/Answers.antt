@@ -20,16 +20,16 @@ unfolding without_sum
 undone k x u v e n = e ∙ ap (λ (y : ℕ). with_first_block y u) n
 
 pub number-first-requires : goal.number-first-requires
-number-first-requires c = (omega arith, (omega arith, c.requires.t))
+number-first-requires c = (omega arith, (omega arith, c.requires.are_bits))
 
 pub sum_of_blocks-others-requires : goal.sum_of_blocks-others-requires
 sum_of_blocks-others-requires c =
     let block = c.args.block.now in
-    rw (others block) (record { t = all_bits-drop 10 block c.requires.t; block_len_bound = omega (arith, length-drop 10 block) })
+    rw (others block) (record { are_bits = all_bits-drop 10 block c.requires.are_bits; block_len_bound = omega (arith, length-drop 10 block) })
 
 pub overflow_add-first : goal.overflow_add-first
 overflow_add-first c =
-    omega (arith, c.number-first.ensures, front_below 10 c.args.block.now c.requires.t)
+    omega (arith, c.number-first.ensures, front_below 10 c.args.block.now c.requires.are_bits)
 
 pub returns : goal.returns
 returns c =

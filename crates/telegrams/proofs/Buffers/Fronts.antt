@@ -5,7 +5,7 @@ use mathlib.Core.List.{List, ◌++◌, append-nil, append_assoc}
 use Prim.Native.Nat.{ℕ, ◌+◌, ◌-◌, ◌*◌, ◌≤◌}
 use native.Mathlib.Omega.{arith}
 use lib.ListN.{length, take, drop, length-append, length-drop, drop_of_length-le, take-append-drop}
-use lib.Seq.{take_all, take-length, length-take-le, drop-drop}
+use lib.Seq.{take_all, length-take-le, drop-drop}
 use borrow.Rule.Slice.PartMut.{put_mid}
 use Rattle.bits.specs.Groups.{each_group}
 use Rattle.bits.proofs.Groups.{length_groups, groups_more}
@@ -20,10 +20,6 @@ back a s w = put_mid a (length s - a) s w
 
 pub lent_is : (a : ℕ) (s : List ℕ) → lent a s ≡ drop a s
 lent_is a s = take_all (length s - a) (drop a s) (omega (arith, length-drop a s))
-
--- all of p is copied over the front of old
-pub copied_whole : (p old s : List ℕ) → s ≡ take (length p) p ++ drop (length p) old → s ≡ p ++ drop (length p) old
-copied_whole p old s e = e ∙ ap (λ (l : List ℕ). l ++ drop (length p) old) (take-length p)
 
 -- p stands in front of s, and the rest is that of old; the callee puts w in the place of the next k
 pub front_more : (p w old s left : List ℕ) (a k : ℕ) → length p ≡ a → s ≡ p ++ drop a old → left ≡ w ++ drop k (lent a s)

@@ -1,38 +1,21 @@
--- `words::in_group_250` meets its contract: each return goes by the tests that led there. Assumes nothing.
-use mathlib.Core.Path.{refl}
-use borrow.Author.Tests.{le-ltb, lt-ltb, eq-eqb, ne_eqb}
+-- `words::in_group_250` meets its contract: the tests are those of the definition. Assumes nothing.
+use Rattle.std.proofs.Common.{arith}
+use Rattle.std.proofs.lemmas.Bool.Decides.{nat_tests}
 use Rattle.words.specs.Words.{in_group250}
 use Rattle.words.proofs.in_group_250.Goals as goal
 
-pub returns-then-word-ge2048 : goal.returns-then-word-ge2048
+pub returns-then-matches-2 : goal.returns-then-matches-2
 unfolding in_group250
-returns-then-word-ge2048 c = rw (le-ltb _ _ c.if-word-ge2048.true)
+returns-then-matches-2 c = grind (arith, nat_tests)
 
-pub returns-then-first-eq0 : goal.returns-then-first-eq0
+pub returns-in-1025 : goal.returns-in-1025
 unfolding in_group250
-returns-then-first-eq0 c = rw (lt-ltb _ _ c.if-word-ge2048.false, eq-eqb _ 0b00000 c.if-first-eq0.true)
+returns-in-1025 c = grind (arith, nat_tests)
 
-pub returns-then-first-eq31 : goal.returns-then-first-eq31
+pub returns-in_default-matches-2 : goal.returns-in_default-matches-2
 unfolding in_group250
-returns-then-first-eq31 c =
-    rw (lt-ltb _ _ c.if-word-ge2048.false, ne_eqb _ 0b00000 c.if-first-eq0.false, eq-eqb _ 0b11111 c.if-first-eq31.true)
+returns-in_default-matches-2 c = grind (arith, nat_tests)
 
-pub returns-then-last-eq0 : goal.returns-then-last-eq0
+pub returns-else-word-lt2048 : goal.returns-else-word-lt2048
 unfolding in_group250
-returns-then-last-eq0 c =
-    rw (lt-ltb _ _ c.if-word-ge2048.false, ne_eqb _ 0b00000 c.if-first-eq0.false, ne_eqb _ 0b11111 c.if-first-eq31.false, eq-eqb _ 0b00000 c.if-last-eq0.true)
-
-pub returns-then-last-eq31 : goal.returns-then-last-eq31
-unfolding in_group250
-returns-then-last-eq31 c =
-    rw (lt-ltb _ _ c.if-word-ge2048.false, ne_eqb _ 0b00000 c.if-first-eq0.false, ne_eqb _ 0b11111 c.if-first-eq31.false, ne_eqb _ 0b00000 c.if-last-eq0.false, eq-eqb _ 0b11111 c.if-last-eq31.true)
-
-pub returns-then-word-eq1025 : goal.returns-then-word-eq1025
-unfolding in_group250
-returns-then-word-eq1025 c =
-    rw (lt-ltb _ _ c.if-word-ge2048.false, ne_eqb _ 0b00000 c.if-first-eq0.false, ne_eqb _ 0b11111 c.if-first-eq31.false, ne_eqb _ 0b00000 c.if-last-eq0.false, ne_eqb _ 0b11111 c.if-last-eq31.false, eq-eqb _ 0b10000000001 c.if-word-eq1025.true)
-
-pub returns : goal.returns
-unfolding in_group250
-returns c =
-    rw (lt-ltb _ _ c.if-word-ge2048.false, ne_eqb _ 0b00000 c.if-first-eq0.false, ne_eqb _ 0b11111 c.if-first-eq31.false, ne_eqb _ 0b00000 c.if-last-eq0.false, ne_eqb _ 0b11111 c.if-last-eq31.false, ne_eqb _ 0b10000000001 c.if-word-eq1025.false) refl
+returns-else-word-lt2048 c = grind (arith, nat_tests)

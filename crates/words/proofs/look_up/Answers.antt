@@ -2,18 +2,10 @@
 use mathlib.Core.Path.{ap, ◌∙◌}
 use Prim.Native.Nat.{◌<◌}
 use native.Mathlib.Omega.{arith}
-use Rattle.words.specs.declared.Kind.{Kind}
-use Rattle.words.specs.declared.Lookup.TheVariants.{NotInTable}
-use Rattle.words.proofs.Ranks.{rank, divides, few, rank_small}
+use Rattle.words.proofs.Ranks.{rank, rank_small}
 use Rattle.words.proofs.Marked.{marked_number, marked_kind}
 use Rattle.words.proofs.look_up.Goals as goal
-
-pub nonzero_rem-below : goal.nonzero_rem-below
-nonzero_rem-below c = divides c.args.word
-
-pub overflow_cast-below-2 : goal.overflow_cast-below-2
-overflow_cast-below-2 c =
-    record { fits = omega (arith, few c.part_at-part.result.words c.args.word) }
+use Rattle.std.specs.Prelude.{Err}
 
 pub overflow_add-rank : goal.overflow_add-rank
 overflow_add-rank c =
@@ -32,6 +24,6 @@ returns-then-rank-lt2048 c =
 
 pub returns : goal.returns
 returns c =
-    ap (λ (k : Kind). NotInTable k) c.kind_marked-kind.ensures
+    ap Err c.kind_marked.ensures
     ∙ marked_kind c.args.word _ c.part_at-part.ensures.0 _ c.part_at-part.ensures.1 _ _ c.barred_at-barred.ensures.1
     c.barred_at-barred.ensures.0 (omega arith)

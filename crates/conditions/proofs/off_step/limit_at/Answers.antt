@@ -1,20 +1,17 @@
--- `conditions::off_step::limit_at` meets its contract. Assumes nothing.
-use borrow.Author.Tests.{eq-eqb, ne_eqb}
+-- `conditions::off_step::limit_at` meets its contract: its arms are the cases of the definition. Assumes nothing.
+use Rattle.std.proofs.Common.{arith}
+use Rattle.std.proofs.lemmas.Bool.Decides.{nat_tests}
 use Rattle.conditions.specs.Conditions.{limit_at}
 use Rattle.conditions.proofs.off_step.limit_at.Goals as goal
 
-pub returns-then-p-eq1 : goal.returns-then-p-eq1
+pub returns-in_default-eq1 : goal.returns-in_default-eq1
 unfolding limit_at
-returns-then-p-eq1 c = simp (eq-eqb _ _ c.if-p-eq1.true)
+returns-in_default-eq1 c = grind (arith, nat_tests)
 
-pub returns-then-p-eq10 : goal.returns-then-p-eq10
+pub returns-in-Long-default : goal.returns-in-Long-default
 unfolding limit_at
-returns-then-p-eq10 c = simp (ne_eqb _ _ c.if-p-eq1.false, eq-eqb _ _ c.if-p-eq10.true)
+returns-in-Long-default c = rw c.in-Long-default.is-0 (grind (arith, nat_tests))
 
-pub returns-in-Long : goal.returns-in-Long
+pub returns-in-Short-default : goal.returns-in-Short-default
 unfolding limit_at
-returns-in-Long c = simp (ne_eqb _ _ c.if-p-eq1.false, ne_eqb _ _ c.if-p-eq10.false, c.in-Long.is)
-
-pub returns-in-Short : goal.returns-in-Short
-unfolding limit_at
-returns-in-Short c = simp (ne_eqb _ _ c.if-p-eq1.false, ne_eqb _ _ c.if-p-eq10.false, c.in-Short.is)
+returns-in-Short-default c = rw c.in-Short-default.is-0 (grind (arith, nat_tests))

@@ -25,16 +25,13 @@ done : (i at other : ℕ) (b : List ℕ) → 22 ≤ i → left i at other b ≡ 
 unfolding differences
 done i at other b h = ap₂ differences (around_done 22 i at b h) (around_done 22 i other b h)
 
-pub place_after-other-requires : goal.place_after-other-requires
-place_after-other-requires c = c.requires
-
 pub loop-i-init : goal.loop-i-init
 loop-i-init c =
     let a = c.args in
     let b = a.b.now in
     let same : left 0 a.p c.place_after-other.result b ≡ differences (around 22 a.p b) (around 22 (a.p + a.k) b) =
     ap (differences (around 22 a.p b)) (ap (λ (q : ℕ). around 22 q b) c.place_after-other.ensures ∙ around-mod 22 (a.p + a.k) b) in
-    (omega arith, omega arith, c.requires.0, rw c.place_after-other.ensures (mod-lt (a.p + a.k) (omega arith)), omega arith)
+    (omega arith, c.requires.0, rw c.place_after-other.ensures (mod-lt (a.p + a.k) (omega arith)), omega arith)
 
 pub returns-then-d-count : goal.returns-then-d-count
 unfolding apart
@@ -45,7 +42,7 @@ returns-then-d-count c =
 pub loop-i-preserved : goal.loop-i-preserved
 loop-i-preserved c =
     let b = c.args.b.now in
-    let i = c.loop-i.i in
+    let i = c.loop-i._i in
     let at = c.loop-i.at in
     let other = c.loop-i.other in
     let rest = left (i + 1) ((at + 1) % length b) ((other + 1) % length b) b in
@@ -57,7 +54,6 @@ loop-i-preserved c =
       | then-b-at w ↦ (omega arith, omega (arith, differ (get_or b at 0) (get_or b other 0) rest w.if-b-at.true))
       | else-b-at w ↦ (omega arith, omega (arith, agree (get_or b at 0) (get_or b other 0) rest w.if-b-at.false))
     ] in (
-      omega arith,
       counted.0,
       rw c.place_after-at.ensures (mod-lt (at + 1) (omega arith)),
       rw c.place_after-other-in-loop-i.ensures (mod-lt (other + 1) (omega arith)),
@@ -69,5 +65,5 @@ unfolding apart
 returns c =
     let a = c.args in
     let total : c.loop-i.count ≡ differences (around 22 a.p a.b.now) (around 22 (a.p + a.k) a.b.now) =
-    omega (arith, done c.loop-i.i c.loop-i.at c.loop-i.other a.b.now (omega arith)) in
+    omega (arith, done c.loop-i._i c.loop-i.at c.loop-i.other a.b.now (omega arith)) in
     ap (leb a.d) total

@@ -24,8 +24,5 @@ agree x y k e = ap (λ (t : Bool). count_differing t k) (eq-eqb x y e)
 
 abbrev pub invariant-loop-i : goal.invariant-loop-i
 invariant-loop-i l =
-    (l.i ≤ 22) × (l.count ≤ l.i) × (l.at < length l.b) × (l.other < length l.b)
-    × (differences (around 22 l.p l.b) (around 22 (l.p + l.k) l.b) ≡ l.count + left l.i l.at l.other l.b)
-
-abbrev pub decreases-loop-i : goal.decreases-loop-i
-decreases-loop-i l = 22 - l.i
+    (l.count ≤ l._i) × (l.at < length l.b) × (l.other < length l.b)
+    × (differences (around 22 l.p l.b) (around 22 (l.p + l.k) l.b) ≡ l.count + left l._i l.at l.other l.b)

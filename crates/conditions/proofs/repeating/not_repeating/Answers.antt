@@ -7,16 +7,16 @@ use Rattle.conditions.proofs.repeating.not_repeating.Goals as goal
 
 pub each_shifted_apart-requires : goal.each_shifted_apart-requires
 each_shifted_apart-requires c =
-    c.requires.1 ∙ ap (λ (f : Format). (numbers_of f).n) c.in-Long.is
+    c.args.telegram.size ∙ ap (λ (f : Format). (numbers_of f).n) c.in-Long.is
 
 pub returns-in-Long : goal.returns-in-Long
 unfolding not_repeating
 returns-in-Long c =
-    let b = c.args.b.now in
+    let b = c.args.telegram.bits.now in
     c.each_shifted_apart.ensures ∙ ap (λ (f : Format). not_repeating f b) (sym c.in-Long.is)
 
 pub returns-in-Short : goal.returns-in-Short
 unfolding not_repeating
 returns-in-Short c =
-    let b = c.args.b.now in
+    let b = c.args.telegram.bits.now in
     ap (λ (f : Format). not_repeating f b) (sym c.in-Short.is)

@@ -1,41 +1,21 @@
--- `conditions::repeating::shifted_apart` meets its contract. The loop's invariant: the values before k have passed. Assumes nothing.
-use mathlib.Core.Path.{◌≡◌, refl, sym, ap, ap₂, ◌∙◌}
+-- `conditions::repeating::shifted_apart` meets its contract: the closure tests each k, at k and at -k. Assumes nothing.
+use mathlib.Core.Path.{◌≡◌, refl, ap₂, ◌∙◌}
 use mathlib.Core.Bool.{Bool, true, false, ◌&&◌}
 use mathlib.Core.List.{List}
-use Prim.Native.Nat.{ℕ}
-use native.Mathlib.Omega.{arith}
+use Prim.Native.Nat.{ℕ, ◌+◌, ◌-◌}
+use Rattle.std.proofs.Common.{rules}
 use Rattle.conditions.specs.Conditions.{from_to, apart, shifted_apart}
-use Rattle.conditions.proofs.Each.{passed_none, passed_more, passed_fails, passed_done}
-use Rattle.conditions.proofs.repeating.shifted_apart.Invariants.{test}
+use Rattle.conditions.proofs.Each.{each_from_all}
 use Rattle.conditions.proofs.repeating.shifted_apart.Goals as goal
 
--- the answer by the first test
-answer : (b : List ℕ) (p : ℕ) (t : Bool) → apart 3 b p 341 ≡ t → t && from_to 1 3 (test b p) ≡ shifted_apart b p
+-- the answer by the first test and the others
+answer : (b : List ℕ) (p : ℕ) (first others : Bool) → first ≡ apart 3 b p 341
+    → others ≡ from_to 1 3 (λ (k : ℕ). apart 2 b p (341 + k) && apart 2 b p (341 - k)) → first && others ≡ shifted_apart b p
 unfolding shifted_apart
-answer b p t e = sym (ap (λ (x : Bool). x && from_to 1 3 (test b p)) e)
+answer b p first others e r = ap₂ ◌&&◌ e r
 
-pub returns-then-not-apart : goal.returns-then-not-apart
-returns-then-not-apart c = answer _ _ false (sym c.apart.ensures ∙ c.if-not-apart.true)
+pub returns-then-apart : goal.returns-then-apart
+returns-then-apart c = answer _ _ true _ c.if-apart.ensures (each_from_all _ 1 3 _ _ _ c.all.ensures.ran (λ x b q e. search rules))
 
-pub loop-k-init : goal.loop-k-init
-loop-k-init c = passed_none (test _ _) 1 3
-
-pub returns-then-not-apart-2 : goal.returns-then-not-apart-2
-returns-then-not-apart-2 c =
-    passed_fails c.loop-k.invariant (omega arith) (ap₂ ◌&&◌ (sym c.apart-in-loop-k.ensures ∙ c.if-not-apart-2.true) refl)
-    ∙ answer _ _ true (sym c.apart.ensures ∙ c.if-not-apart.false)
-
-pub returns-then-not-apart-3 : goal.returns-then-not-apart-3
-returns-then-not-apart-3 c =
-    passed_fails c.loop-k.invariant (omega arith)
-    (ap₂ ◌&&◌ (sym c.apart-in-loop-k.ensures ∙ c.if-not-apart-2.false) (sym c.apart-in-loop-k-2.ensures ∙ c.if-not-apart-3.true))
-    ∙ answer _ _ true (sym c.apart.ensures ∙ c.if-not-apart.false)
-
-pub loop-k-preserved : goal.loop-k-preserved
-loop-k-preserved c =
-    passed_more c.loop-k.invariant (omega arith)
-    (ap₂ ◌&&◌ (sym c.apart-in-loop-k.ensures ∙ c.if-not-apart-2.false) (sym c.apart-in-loop-k-2.ensures ∙ c.if-not-apart-3.false))
-
-pub returns : goal.returns
-returns c =
-    passed_done c.loop-k.invariant (omega arith) ∙ answer _ _ true (sym c.apart.ensures ∙ c.if-not-apart.false)
+pub returns-else-apart : goal.returns-else-apart
+returns-else-apart c = c.if-apart.false ∙ answer _ _ false _ c.if-apart.ensures refl

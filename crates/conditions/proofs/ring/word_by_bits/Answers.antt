@@ -1,6 +1,6 @@
 -- `conditions::ring::word_by_bits` meets its contract. The loop's invariant: the number of the 11 bits is that of the bits passed, x, and then
 -- the rest round the ring. Assumes nothing.
-use mathlib.Core.Path.{◌≡◌, refl, sym, ap, ◌∙◌}
+use mathlib.Core.Path.{◌≡◌, sym, ap, ◌∙◌}
 use mathlib.Core.List.{List}
 use Prim.Native.Nat.{ℕ, ◌+◌, ◌*◌, ◌-◌, ◌%◌, ◌^◌, ◌≤◌, ◌<◌}
 use native.Mathlib.Nat.{mod-lt, lt_of_lt_of_le}
@@ -30,39 +30,22 @@ doubled i x a h k l =
     let few : i + 1 ≤ 16 = omega arith in
     (one, lt_of_lt_of_le one (pow_mono few))
 
-pub loop-i-init : goal.loop-i-init
-loop-i-init c = (omega arith, omega arith, c.requires.1, refl)
-
-pub overflow_mul-x : goal.overflow_mul-x
-overflow_mul-x c =
-    let bit : get_or c.args.b.now c.loop-i.at 0 < 2 = all_bits-get_or _ _ c.requires.0 in
-    let room : (c.loop-i.x * 2 + get_or c.args.b.now c.loop-i.at 0 < 2 ^ (c.loop-i.i + 1)) × (c.loop-i.x * 2 + get_or c.args.b.now c.loop-i.at 0 < 2 ^ 16) = doubled c.loop-i.i c.loop-i.x _ c.loop-i.invariant.1 bit (omega arith) in
-    omega (arith, (room).1)
-
-pub overflow_cast-x : goal.overflow_cast-x
-overflow_cast-x c =
-    let bit : get_or c.args.b.now c.loop-i.at 0 < 2 = all_bits-get_or _ _ c.requires.0 in
-    omega (arith, bit)
-
 pub overflow_add-x : goal.overflow_add-x
 overflow_add-x c =
-    let bit : get_or c.args.b.now c.loop-i.at 0 < 2 = all_bits-get_or _ _ c.requires.0 in
-    let room : (c.loop-i.x * 2 + get_or c.args.b.now c.loop-i.at 0 < 2 ^ (c.loop-i.i + 1)) × (c.loop-i.x * 2 + get_or c.args.b.now c.loop-i.at 0 < 2 ^ 16) = doubled c.loop-i.i c.loop-i.x _ c.loop-i.invariant.1 bit (omega arith) in
-    omega (arith, (room).1)
+    let bit = all_bits-get_or c.args.b.now c.loop-i.at c.requires.0 in
+    omega (arith, doubled c.loop-i._i c.loop-i.x _ c.loop-i.invariant.0 bit (omega arith))
 
 pub loop-i-preserved : goal.loop-i-preserved
 loop-i-preserved c =
-    let bit : get_or c.args.b.now c.loop-i.at 0 < 2 = all_bits-get_or _ _ c.requires.0 in
-    let room : (c.loop-i.x * 2 + get_or c.args.b.now c.loop-i.at 0 < 2 ^ (c.loop-i.i + 1)) × (c.loop-i.x * 2 + get_or c.args.b.now c.loop-i.at 0 < 2 ^ 16) = doubled c.loop-i.i c.loop-i.x _ c.loop-i.invariant.1 bit (omega arith) in
     let b = c.args.b.now in
-    let inside : c.place_after-at.result < length b = rw c.place_after-at.ensures (mod-lt (c.loop-i.at + 1) (omega arith)) in (
-      omega arith,
-      (room).0,
-      inside,
-      c.loop-i.invariant.3 ∙ more c.loop-i.i c.loop-i.x c.loop-i.at b (omega arith) (omega arith)
-          ∙ ap (λ (q : ℕ). number_from (c.loop-i.x * 2 + get_or b c.loop-i.at 0) (around (11 - (c.loop-i.i + 1)) q b)) (sym c.place_after-at.ensures),
+    let i = c.loop-i._i in
+    let x = c.loop-i.x in
+    let bit = get_or b c.loop-i.at 0 in (
+      (doubled i x bit c.loop-i.invariant.0 (all_bits-get_or b c.loop-i.at c.requires.0) (omega arith)).0,
+      rw c.place_after-at.ensures (mod-lt (c.loop-i.at + 1) (omega arith)),
+      c.loop-i.invariant.2 ∙ more i x c.loop-i.at b (omega arith) (omega arith)
+          ∙ ap (λ (q : ℕ). number_from (x * 2 + bit) (around (11 - (i + 1)) q b)) (sym c.place_after-at.ensures),
     )
 
 pub returns : goal.returns
-returns c =
-    sym (c.loop-i.invariant.3 ∙ done c.loop-i.i c.loop-i.x c.loop-i.at c.args.b.now (omega arith))
+returns c = sym (c.loop-i.invariant.2 ∙ done c.loop-i._i c.loop-i.x c.loop-i.at c.args.b.now (omega arith))

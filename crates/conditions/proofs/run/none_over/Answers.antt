@@ -14,11 +14,11 @@ use Rattle.conditions.proofs.run.none_over.Goals as goal
 pub loop-i-init : goal.loop-i-init
 loop-i-init c =
     let a = c.args in
-    (refl, c.requires.t.1, sought_none a.starts a.limit a.b.now a.p)
+    (refl, c.requires.are_bits.1, sought_none a.starts a.limit a.b.now a.p)
 
 pub up_to_invalid-past-requires : goal.up_to_invalid-past-requires
 up_to_invalid-past-requires c =
-    (c.requires.t.0, (c.loop-i.invariant.1, omega (arith, c.loop-i.invariant.0, c.requires.starts_in_bounds)))
+    (c.requires.are_bits.0, (c.loop-i.invariant.1, omega (arith, c.loop-i.invariant.0, c.requires.starts_in_bounds)))
 
 pub returns-then-past-eq0 : goal.returns-then-past-eq0
 returns-then-past-eq0 c =

@@ -1,12 +1,12 @@
--- `conditions::thinned::thin` meets its contract. The loop's invariant: the thinned bits down to j are written, and `at` is the place of v(j).
+-- `conditions::thinned::thin` meets its contract. The loop's invariant: the first thinned bits are written, and `at` is the place of the last one.
 -- Assumes nothing.
 use mathlib.Core.Path.{◌≡◌, refl, sym, ap, ◌∙◌}
-use mathlib.Core.List.{List, [], ◌∷◌, ◌++◌}
-use Prim.Native.Nat.{ℕ, suc, ◌+◌, ◌-◌, ◌*◌, ◌%◌, ◌<◌}
-use native.Mathlib.Nat.{mul-mod_right}
+use mathlib.Core.List.{List, ◌∷◌, ◌++◌}
+use Prim.Native.Nat.{ℕ, suc, ◌+◌, ◌-◌, ◌*◌, ◌%◌, ◌≤◌, ◌<◌}
 use native.Mathlib.Omega.{arith}
-use lib.ListN.{length, get_or, drop}
-use Rattle.bits.proofs.Writer.{written_none, written_more, written_done}
+use lib.ListN.{length, get_or, take, drop}
+use Rattle.std.proofs.lemmas.List.{append-nil, drop_all, length-take-le}
+use Rattle.bits.proofs.Writer.{Written, written_more, written_done}
 use Rattle.conditions.specs.Conditions.{thinned_below}
 use Rattle.conditions.proofs.ThinnedRing.{place_on}
 use Rattle.conditions.proofs.thinned.thin.Goals as goal
@@ -19,56 +19,37 @@ more j step b h =
     let count : j ≡ suc (j - 1) = omega arith in
     ap (λ (x : ℕ). thinned_below x step b) count
 
-none : (step : ℕ) (b : List ℕ) → thinned_below 0 step b ≡ []
+-- all are written
+done : (n step i : ℕ) (b old new : List ℕ) → Written (thinned_below n step b) old new (thinned_below (n - i) step b) i → length old ≤ i → n ≤ i
+    → new ≡ thinned_below n step b
 unfolding thinned_below
-none step b = refl
+done n step i b old new w full all =
+    let none : n - i ≡ 0 = omega arith in
+    written_done w (ap (λ (x : ℕ). thinned_below x step b) none) ∙ ap (λ (l : List ℕ). thinned_below n step b ++ l) (drop_all i old full)
+    ∙ append-nil (thinned_below n step b)
 
-pub loop-j-init : goal.loop-j-init
-loop-j-init c =
-    let a = c.args in
-    let n = length a.b.now in
-    let none : n - n ≡ 0 = omega arith in
-    (refl, omega arith, omega (arith, mul-mod_right n a.step), rw none (written_none refl))
-
-pub bounds-b-at : goal.bounds-b-at
-bounds-b-at c =
-    let b : List ℕ = c.args.b.now in
-    let n : ℕ = length b in
-    let step : ℕ = c.args.step in
-    let j : ℕ = c.loop-j.j in
-    let gone_on : c.place_after-at.result ≡ n - 1 - (j - 1) * step % n =
+pub loop-slot-preserved : goal.loop-slot-preserved
+loop-slot-preserved c =
+    let b = c.args.b.now in
+    let n = length b in
+    let step = c.args.step in
+    let i = c.loop-slot.slot-index in
+    let j = n - i in
+    let size : length (take n c.args.out.now) ≡ n = length-take-le n c.args.out.now c.requires.0 in
+    let next : n - (i + 1) ≡ j - 1 = omega arith in
     let count : j ≡ j - 1 + 1 = omega arith in
-    c.place_after-at.ensures ∙ ap (λ (x : ℕ). (x + step) % n) (c.loop-j.invariant.2 ∙ ap (λ (x : ℕ). n - 1 - x * step % n) count)
-    ∙ place_on n (j - 1) step (omega arith) (omega arith) in
-    omega (arith, gone_on)
-
-pub loop-j-preserved : goal.loop-j-preserved
-loop-j-preserved c =
-    let b : List ℕ = c.args.b.now in
-    let n : ℕ = length b in
-    let step : ℕ = c.args.step in
-    let j : ℕ = c.loop-j.j in
     let gone_on : c.place_after-at.result ≡ n - 1 - (j - 1) * step % n =
-    let count : j ≡ j - 1 + 1 = omega arith in
-    c.place_after-at.ensures ∙ ap (λ (x : ℕ). (x + step) % n) (c.loop-j.invariant.2 ∙ ap (λ (x : ℕ). n - 1 - x * step % n) count)
+    c.place_after-at.ensures ∙ ap (λ (x : ℕ). (x + step) % n) (c.loop-slot.invariant.1 ∙ ap (λ (x : ℕ). n - 1 - x * step % n) count)
     ∙ place_on n (j - 1) step (omega arith) (omega arith) in
-    let place : n - 1 - (j - 1) ≡ n - j = omega arith in
-    let next : n - j + 1 ≡ n - (j - 1) = omega arith in (
+    rw next (
       refl,
-      omega arith,
       gone_on,
-      rw (place, ← next)
-          (written_more c.loop-j.invariant.3 (omega arith)
-          (more j step b (omega arith) ∙ ap (λ (x : ℕ). get_or b x 0 ∷ thinned_below (j - 1) step b) (sym gone_on))),
+      written_more c.loop-slot.invariant.2 c.loop-slot-test.true
+          (more j step b (omega arith) ∙ ap (λ (x : ℕ). get_or b x 0 ∷ thinned_below (j - 1) step b) (sym gone_on)),
     )
-
-pub shape_of-out : goal.shape_of-out
-shape_of-out c = c.loop-j.invariant.3.same
 
 pub returns : goal.returns
 returns c =
-    let a = c.args in
-    let b = a.b.now in
-    let j : c.loop-j.j ≡ 0 = omega arith in
-    let n : length b - c.loop-j.j ≡ length b = omega arith in
-    written_done c.loop-j.invariant.3 (rw j (none a.step b)) ∙ ap (λ (x : ℕ). thinned_below (length b) a.step b ++ drop x a.out.now) n
+    let n = length c.args.b.now in
+    let size : length (take n c.args.out.now) ≡ n = length-take-le n c.args.out.now c.requires.0 in
+    ap (λ (l : List ℕ). l ++ drop n c.args.out.now) (done n _ _ _ _ _ c.loop-slot.invariant.2 c.loop-slot-test.false (omega arith))

@@ -26,26 +26,26 @@ front b rest out k step e f =
 
 pub thin-requires : goal.thin-requires
 thin-requires c =
-    let n = telegram_between c.args.format in
-    let p = power c.args.k c.requires.1.1 in
+    let n = telegram_between c.args.telegram.format in
+    let p = power c.args.k c.requires in
     (omega arith, (omega arith, omega arith))
 
 pub slice_bounds-v-end : goal.slice_bounds-v-end
-slice_bounds-v-end c = omega (arith, telegram_between c.args.format)
+slice_bounds-v-end c = omega (arith, telegram_between c.args.telegram.format)
 
 pub slice_bounds-within_round-end : goal.slice_bounds-within_round-end
 slice_bounds-within_round-end c =
-    let written : take (length c.args.b.now) c.thin.new.out ≡ thinned c.args.k c.args.b.now = front c.args.b.now _ _ c.args.k _ (power c.args.k c.requires.1.1).0 c.thin.ensures in
+    let written : take (length c.args.telegram.bits.now) c.thin.new.out ≡ thinned c.args.k c.args.telegram.bits.now = front c.args.telegram.bits.now _ _ c.args.k _ (power c.args.k c.requires).0 c.thin.ensures in
     sym (ap length (written) ∙ length-thinned _ _)
 
-pub within_round-requires : goal.within_round-requires
-within_round-requires c =
-    let written : take (length c.args.b.now) c.thin.new.out ≡ thinned c.args.k c.args.b.now = front c.args.b.now _ _ c.args.k _ (power c.args.k c.requires.1.1).0 c.thin.ensures in
+pub invariant_of-within_round : goal.invariant_of-within_round
+invariant_of-within_round c =
+    let written : take (length c.args.telegram.bits.now) c.thin.new.out ≡ thinned c.args.k c.args.telegram.bits.now = front c.args.telegram.bits.now _ _ c.args.k _ (power c.args.k c.requires).0 c.thin.ensures in
     let e = written in
-    (rw e (all_bits-thinned c.args.k c.args.b.now c.requires.0), ap length e ∙ length-thinned c.args.k c.args.b.now ∙ c.requires.1.0)
+    record { are_bits = rw e (all_bits-thinned c.args.k c.args.telegram.bits.now c.args.telegram.are_bits); size = ap length e ∙ length-thinned c.args.k c.args.telegram.bits.now ∙ c.args.telegram.size }
 
 pub returns : goal.returns
 unfolding thinned_by
 returns c =
-    let written : take (length c.args.b.now) c.thin.new.out ≡ thinned c.args.k c.args.b.now = front c.args.b.now _ _ c.args.k _ (power c.args.k c.requires.1.1).0 c.thin.ensures in
-    c.within_round.ensures ∙ ap (λ (v : List ℕ). from_to 0 10 (thinned_at c.args.format v)) (written)
+    let written : take (length c.args.telegram.bits.now) c.thin.new.out ≡ thinned c.args.k c.args.telegram.bits.now = front c.args.telegram.bits.now _ _ c.args.k _ (power c.args.k c.requires).0 c.thin.ensures in
+    c.within_round.ensures ∙ ap (λ (v : List ℕ). from_to 0 10 (thinned_at c.args.telegram.format v)) (written)

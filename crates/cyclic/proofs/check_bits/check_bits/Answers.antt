@@ -13,7 +13,7 @@ use Rattle.cyclic.proofs.check_bits.check_bits.Goals as goal
 
 pub remainder_from_fg-rest-requires : goal.remainder_from_fg-rest-requires
 unfolding all_bits
-remainder_from_fg-rest-requires c = record { start_bound = c.remainder_fg-above.ensures.result_bound; t = tt }
+remainder_from_fg-rest-requires c = record { start_bound = c.remainder_fg-above.ensures.result_bound; are_bits = tt }
 
 pub returns : goal.returns
 unfolding check_bits
@@ -31,7 +31,7 @@ returns c =
     in
     let hr = remainder_bits d after (all_bits-append bits (replicate 85 0) c.requires (bits_zeros 85)) in
     let size = length-remainder m after in
-    let e = c.plus.ensures ∙ checked_number x (remainder d after) hr size rest c.g-g.ensures in record {
+    let e = c.bitxor.ensures ∙ checked_number x (remainder d after) hr size rest c.g.ensures in record {
       result_value = e;
       result_bound = checked_fits x (remainder d after) hr size e;
     }

@@ -26,25 +26,25 @@ tested format t x size e =
 
 pub overflow_sub-at : goal.overflow_sub-at
 overflow_sub-at c =
-    let last : 110 ≤ length c.args.telegram.now = omega (arith, sizes_of c.args.format) in
+    let last : 110 ≤ length c.args.telegram.bits.now = omega (arith, sizes_of c.args.telegram.format) in
     last
 
 pub all_words-requires : goal.all_words-requires
 all_words-requires c =
-    let last : 110 ≤ length c.args.telegram.now = omega (arith, sizes_of c.args.format) in
-    let t = c.args.telegram.now in
+    let last : 110 ≤ length c.args.telegram.bits.now = omega (arith, sizes_of c.args.telegram.format) in
+    let t = c.args.telegram.bits.now in
     rw (lent_is (length t - 110) t) (record {
-      t = all_bits-drop (length t - 110) t c.requires.t;
+      are_bits = all_bits-drop (length t - 110) t c.args.telegram.are_bits;
       k_in_bounds = omega (arith, length-drop (length t - 110) t, last);
     })
 
-pub returns-then-not-all_words : goal.returns-then-not-all_words
-returns-then-not-all_words c =
-    sym (tested c.args.format c.args.telegram.now false c.requires.telegram_len
-    (sym c.all_words.ensures ∙ c.if-not-all_words.true))
+pub returns-else-all_words : goal.returns-else-all_words
+returns-else-all_words c =
+    c.if-all_words.false ∙ sym (tested c.args.telegram.format c.args.telegram.bits.now false c.args.telegram.size
+    (sym c.all_words.ensures ∙ c.if-all_words.false))
 
-pub returns : goal.returns
-returns c =
+pub returns-then-all_words : goal.returns-then-all_words
+returns-then-all_words c =
     c.conditions.ensures
-    ∙ sym (tested c.args.format c.args.telegram.now true c.requires.telegram_len
-    (sym c.all_words.ensures ∙ c.if-not-all_words.false))
+    ∙ sym (tested c.args.telegram.format c.args.telegram.bits.now true c.args.telegram.size
+    (sym c.all_words.ensures ∙ c.if-all_words.true))

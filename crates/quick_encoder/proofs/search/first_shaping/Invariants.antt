@@ -7,9 +7,9 @@ use Rattle.formats.specs.Numbers.{numbers_of}
 use Rattle.quick_encoder.proofs.Completing.{Trying}
 use Rattle.quick_encoder.proofs.search.first_shaping.Given as goal
 
-abbrev pub invariant-loop-e : goal.invariant-loop-e
-invariant-loop-e l =
-    (length l.telegram ≡ length l.initial.telegram) × Trying l.format (take ((numbers_of l.format).n - 110) l.initial.telegram) l.b l.esb l.telegram l.tail l.e
+abbrev pub invariant-loop-shaping : goal.invariant-loop-shaping
+invariant-loop-shaping l =
+    (length l.telegram ≡ length l.fn.telegram) × Trying l.format (take ((numbers_of l.format).n - 110) l.fn.telegram) l.fn.pair.scrambling l.fn.pair.shaping l.telegram l.tail l.shaping
 
-abbrev pub decreases-loop-e : goal.decreases-loop-e
-decreases-loop-e l = 1024 - l.e
+abbrev pub decreases-loop-shaping : goal.decreases-loop-shaping
+decreases-loop-shaping l = 1024 - l.shaping

@@ -63,11 +63,11 @@ pub slice_bounds-conditions-end-2 : goal.slice_bounds-conditions-end-2
 slice_bounds-conditions-end-2 c =
     sym (length_completed c.args.format _ c.telegram_bits-n.ensures _ c.requires.format_in_bounds c.args.tail _ c.write_tail.ensures)
 
-pub conditions-requires : goal.conditions-requires
-conditions-requires c = (
-  bits_completed c.args.format _ c.telegram_bits-n.ensures _ c.requires.format_in_bounds c.args.tail _ c.write_tail.ensures c.requires.t,
-  sym (slice_bounds-conditions-end-2 c) ∙ c.telegram_bits-n.ensures,
-)
+pub invariant_of-conditions : goal.invariant_of-conditions
+invariant_of-conditions c = record {
+  are_bits = bits_completed c.args.format _ c.telegram_bits-n.ensures _ c.requires.format_in_bounds c.args.tail _ c.write_tail.ensures c.requires.are_bits;
+  size = sym (slice_bounds-conditions-end-2 c) ∙ c.telegram_bits-n.ensures;
+}
 
 pub returns : goal.returns
 returns c =

@@ -10,7 +10,7 @@ use Rattle.quick_encoder.proofs.search.pair_from.Given as goal
 
 abbrev pub invariant-loop-scrambling : goal.invariant-loop-scrambling
 invariant-loop-scrambling l =
-    (length l.telegram ≡ 1023) × (l.from < 1024) × Left (passes l.format l.block) (pair_from l.format l.block (1024 * l.b + l.esb)) pair_count (1024 * l.scrambling + l.from)
+    (length l.telegram ≡ 1023) × (l.shaping < 1024) × Left (passes l.fn.format l.block) (pair_from l.fn.format l.block (1024 * l.fn.pair.scrambling + l.fn.pair.shaping)) pair_count (1024 * l.scrambling + l.shaping)
 
 abbrev pub decreases-loop-scrambling : goal.decreases-loop-scrambling
 decreases-loop-scrambling l = 4096 - l.scrambling

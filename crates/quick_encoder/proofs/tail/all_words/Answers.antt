@@ -1,4 +1,4 @@
--- `quick_encoder::tail::all_words_lem` meets its contract: the ten words are those of the two numbers. Assumes nothing.
+-- `quick_encoder::tail::all_words` meets its contract: the ten words are those of the two numbers. Assumes nothing.
 use mathlib.Core.Path.{◌≡◌, refl, sym, ap, ap₂, ◌∙◌}
 use mathlib.Core.Bool.{Bool, true, false, ◌&&◌, and_assoc}
 use mathlib.Core.List.{◌++◌}
@@ -24,14 +24,8 @@ ten_words t high low e e' =
     ∙ ap₂ ◌&&◌ (groups_front ◌&&◌ true is_word 11 5 h l (omega arith)) (ap (all_words 5) (drop_at h l 55 size))
     ∙ sym (ap₂ ◌&&◌ e e')
 
-pub returns-then-not-five_words : goal.returns-then-not-five_words
-returns-then-not-five_words c =
-    let t = c.args.tail in
-    let failed : false ≡ all_words 5 (bits_of 55 t.high) = sym c.if-not-five_words.true ∙ c.five_words.ensures in
-    sym (ten_words t false _ failed refl)
+pub returns-then-five_words : goal.returns-then-five_words
+returns-then-five_words c = sym (ten_words c.args.tail true _ c.if-five_words.ensures c.five_words-then-five_words.ensures)
 
-pub returns : goal.returns
-returns c =
-    let t = c.args.tail in
-    let passed : true ≡ all_words 5 (bits_of 55 t.high) = sym c.if-not-five_words.false ∙ c.five_words.ensures in
-    sym (ten_words t true _ passed c.five_words-2.ensures)
+pub returns-else-five_words : goal.returns-else-five_words
+returns-else-five_words c = c.if-five_words.false ∙ sym (ten_words c.args.tail false _ c.if-five_words.ensures refl)

@@ -39,4 +39,4 @@ pub returns : goal.returns
 unfolding first
 returns c =
     let a = c.args in
-    both a.b a.esb a.check.high a.check.low c.requires.b_bound.0 c.requires.b_bound.1 c.requires.check_bound
+    both a.pair.scrambling a.pair.shaping a.check.high a.check.low c.requires.pair_bound.0 c.requires.pair_bound.1 c.requires.check_bound

@@ -4,7 +4,4 @@ use Rattle.quick_search.specs.Pairs.{PairsAgree}
 use Rattle.quick_search.proofs.pairs.agreed_from.Given as goal
 
 abbrev pub invariant-loop-a : goal.invariant-loop-a
-invariant-loop-a l = (l.first ≤ l.a) × (l.a ≤ l.end) × PairsAgree l.n l.capture l.a l.end
-
-abbrev pub decreases-loop-a : goal.decreases-loop-a
-decreases-loop-a l = l.a
+invariant-loop-a l = (l.first ≤ l.a) × PairsAgree l.n l.capture l.a l.end

@@ -15,5 +15,5 @@ pub returns-in-Proper : goal.returns-in-Proper
 unfolding asked_failing
 returns-in-Proper c =
     let a = c.args in
-    c.first_failing.ensures ∙ failing_is a.format a.telegram.now
-    ∙ ap (λ (x : Asked). asked_failing x a.format a.telegram.now) (sym c.in-Proper.is)
+    c.first_failing.ensures ∙ failing_is a.telegram.format a.telegram.bits.now
+    ∙ ap (λ (x : Asked). asked_failing x a.telegram.format a.telegram.bits.now) (sym c.in-Proper.is)

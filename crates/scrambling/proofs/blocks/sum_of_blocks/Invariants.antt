@@ -6,7 +6,4 @@ use Rattle.scrambling.proofs.blocks.sum_of_blocks.Given as goal
 
 abbrev pub invariant-loop-j : goal.invariant-loop-j
 invariant-loop-j l =
-    (l.j ≤ l.blocks) × (l.sum ≤ 1023 * l.j) × (sum_of_blocks l.blocks l.block ≡ l.sum + sum_of_blocks (l.blocks - l.j) (drop (10 * l.j) l.block))
-
-abbrev pub decreases-loop-j : goal.decreases-loop-j
-decreases-loop-j l = l.blocks - l.j
+    (l.sum ≤ 1023 * l.j) × (sum_of_blocks l.blocks l.block ≡ l.sum + sum_of_blocks (l.blocks - l.j) (drop (10 * l.j) l.block))

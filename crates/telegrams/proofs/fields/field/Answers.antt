@@ -16,7 +16,7 @@ overflow_sub-n c = omega (arith, (sizes_of c.args.format).n_is)
 pub number-requires : goal.number-requires
 number-requires c =
     let size = (sizes_of c.args.format).n_is in
-    (omega arith, (omega arith, c.requires.t))
+    (omega arith, (omega arith, c.requires.are_bits))
 
 pub overflow_cast-result : goal.overflow_cast-result
 overflow_cast-result c =
@@ -24,7 +24,7 @@ overflow_cast-result c =
     let k = c.args.k in
     let at = c.telegram_bits-n.result - c.args.top in
     let most : 2 ^ k ≤ 2 ^ 12 = pow_mono c.requires.k_le_top.1.1 in
-    omega (arith, c.number.ensures, front_below k (drop at t) (all_bits-drop at t c.requires.t), most)
+    omega (arith, c.number.ensures, front_below k (drop at t) (all_bits-drop at t c.requires.are_bits), most)
 
 pub returns : goal.returns
 returns c =

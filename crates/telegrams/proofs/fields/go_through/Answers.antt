@@ -3,16 +3,14 @@
 use mathlib.Core.Path.{◌≡◌, sym, ap, ◌∙◌}
 use mathlib.Core.Bool.{Bool, not}
 use mathlib.Core.List.{List}
-use Prim.Native.Nat.{ℕ, ◌*◌}
+use Prim.Native.Nat.{ℕ}
 use native.Mathlib.Omega.{arith}
-use lib.ListN.{drop}
+use Rattle.std.specs.Prelude.{Err}
 use Rattle.bits.specs.Bits.{number_of}
-use Rattle.bits.proofs.AllBits.{all_bits-drop}
-use Rattle.bits.proofs.Left.{left_all, left_fewer, left-found, left-none}
-use Rattle.bits.proofs.Parts.{front_below}
+use Rattle.bits.proofs.Left.{left_fewer, left-found, left-none}
 use Rattle.words.specs.Words.{in_table, is_word}
 use Rattle.telegrams.specs.Worded.{word_at, is_bad}
-use Rattle.telegrams.proofs.FirstBad.{none_whole, found_not_word}
+use Rattle.telegrams.proofs.FirstBad.{word_below, none_whole, found_not_word}
 use Rattle.telegrams.proofs.fields.go_through.Goals as goal
 
 -- whether the next word is bad, by what was found of it
@@ -20,29 +18,13 @@ next : (s : List ℕ) (at word : ℕ) (t : Bool) → word ≡ number_of (word_at
 unfolding is_bad is_word
 next s at word t n f u e = ap not (sym (f ∙ ap in_table n) ∙ e)
 
-pub loop-at-init : goal.loop-at-init
-loop-at-init c = left_all _ _
-
-pub number-word-requires : goal.number-word-requires
-number-word-requires c = (omega arith, (omega arith, c.requires.t))
-
 pub overflow_cast-word : goal.overflow_cast-word
-overflow_cast-word c =
-    let s = c.args.s.now in
-    let place = 11 * c.loop-at.at in
-    omega (arith, c.number-word.ensures, front_below 11 (drop place s) (all_bits-drop place s c.requires.t))
-
-pub not_word-requires : goal.not_word-requires
-not_word-requires c =
-    record {
-      t = c.requires.t;
-      index_in_bounds = omega arith;
-    }
+overflow_cast-word c = omega (arith, c.number-word.ensures, word_below c.args.s.now c.loop-at.at c.requires.are_bits)
 
 pub returns-then-not-in_table : goal.returns-then-not-in_table
 returns-then-not-in_table c =
-    c.not_word.ensures
-    ∙ sym (found_not_word _ _ _ (left-found c.loop-at.invariant (omega arith) (next c.args.s.now c.loop-at.at _ _ c.number-word.ensures c.in_table.ensures _ c.if-not-in_table.true)))
+    let bad = next c.args.s.now c.loop-at.at _ _ c.number-word.ensures c.in_table.ensures _ c.if-not-in_table.true in
+    ap Err c.bad_word.ensures ∙ sym (found_not_word _ _ _ (left-found c.loop-at.invariant (omega arith) bad))
 
 pub loop-at-preserved : goal.loop-at-preserved
 loop-at-preserved c =

@@ -6,7 +6,7 @@ use Rattle.telegrams.proofs.fields.shaping_bits.Goals as goal
 pub field-requires : goal.field-requires
 field-requires c =
     record {
-      t = c.requires.t;
+      are_bits = c.requires.are_bits;
       format_in_bounds = c.requires.format_in_bounds;
       k_le_top = (omega arith, (omega arith, omega arith));
     }

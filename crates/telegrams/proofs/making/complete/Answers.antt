@@ -23,6 +23,6 @@ pub returns : goal.returns
 returns c =
     let a = c.args in
     let s = c.settle-register in
-    completed a.format a.telegram.now a.b a.esb c.requires.format_in_bounds (c.telegram_bits-checked.result - 85) (value_of s.result)
+    completed a.format a.telegram.now a.pair.scrambling a.pair.shaping c.requires.format_in_bounds (c.telegram_bits-checked.result - 85) (value_of s.result)
     s.new.telegram c.write_check_bits.new.out (ap (λ (n : ℕ). n - 85) c.telegram_bits-checked.ensures)
     s.ensures.telegram_after s.ensures.result_value c.write_check_bits.ensures

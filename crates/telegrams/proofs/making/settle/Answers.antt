@@ -36,8 +36,8 @@ slice_bounds-check_bits-end-2 c =
 pub check_bits-requires : goal.check_bits-requires
 check_bits-requires c =
     let a = c.args in
-    bits_before a.format a.telegram.now a.b a.esb c.requires.format_in_bounds c.telegram_bits-n.result c.telegram_bits-n.ensures
-    c.write_settings.new.out c.write_settings.ensures c.requires.t
+    bits_before a.format a.telegram.now a.pair.scrambling a.pair.shaping c.requires.format_in_bounds c.telegram_bits-n.result c.telegram_bits-n.ensures
+    c.write_settings.new.out c.write_settings.ensures c.requires.are_bits
 
 pub returns : goal.returns
 returns c =
@@ -46,7 +46,7 @@ returns c =
     let n_is = c.telegram_bits-n.ensures in
     let left = c.write_settings.new.out in record {
       result_value = check_list a.format _ c.check_bits.ensures.result_value
-          ∙ ap (check_bits (numbers_of a.format)) (settled_front a.format a.telegram.now a.b a.esb c.requires.format_in_bounds n n_is left c.write_settings.ensures);
+          ∙ ap (check_bits (numbers_of a.format)) (settled_front a.format a.telegram.now a.pair.scrambling a.pair.shaping c.requires.format_in_bounds n n_is left c.write_settings.ensures);
       result_bound = c.check_bits.ensures.result_bound;
-      telegram_after = settled a.format a.telegram.now a.b a.esb c.requires.format_in_bounds n n_is left c.write_settings.ensures;
+      telegram_after = settled a.format a.telegram.now a.pair.scrambling a.pair.shaping c.requires.format_in_bounds n n_is left c.write_settings.ensures;
     }

@@ -2,13 +2,10 @@
 -- was. Assumes nothing.
 use mathlib.Core.Path.{◌≡◌}
 use mathlib.Core.List.{◌++◌}
-use Prim.Native.Nat.{◌*◌, ◌-◌, ◌≤◌}
-use lib.ListN.{length, drop}
+use Prim.Native.Nat.{◌*◌}
+use lib.ListN.{drop}
 use Rattle.telegrams.specs.Telegram.{shaped}
 use Rattle.telegrams.proofs.making.shape.Given as goal
 
 abbrev pub invariant-loop-j : goal.invariant-loop-j
-invariant-loop-j l = (l.j ≤ l.k) × (length l.out ≡ length l.initial.out) × (l.out ≡ shaped l.j l.scrambled ++ drop (11 * l.j) l.initial.out)
-
-abbrev pub decreases-loop-j : goal.decreases-loop-j
-decreases-loop-j l = l.k - l.j
+invariant-loop-j l = l.out ≡ shaped l.j l.scrambled ++ drop (11 * l.j) l.initial.out

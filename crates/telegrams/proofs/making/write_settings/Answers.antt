@@ -20,10 +20,10 @@ unfolding settings
 returns c =
     let a = c.args in
     let old = a.out.now in
-    let sb = bits_of 12 a.b in
-    let esb = bits_of 10 a.esb in
+    let sb = bits_of 12 a.pair.scrambling in
+    let esb = bits_of 10 a.pair.shaping in
     let one = c.write_number.ensures ∙ ap (λ (l : List ℕ). l ++ drop 3 old) control_bits in
     let two = front_more control sb old c.write_number.new.out c.write_number-2.new.out 3 12 refl one c.write_number-2.ensures in
-    let size : length (control ++ sb) ≡ 15 = length-append control sb ∙ omega (arith, length-bits_of 12 a.b) in
+    let size : length (control ++ sb) ≡ 15 = length-append control sb ∙ omega (arith, length-bits_of 12 a.pair.scrambling) in
     front_more (control ++ sb) esb old _ c.write_number-3.new.out 15 10 size two c.write_number-3.ensures
     ∙ ap (λ (l : List ℕ). l ++ drop 25 old) (append_assoc control sb esb)

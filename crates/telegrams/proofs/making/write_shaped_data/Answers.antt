@@ -23,27 +23,27 @@ zeros = replicate long.m 0
 pub scramble-requires : goal.scramble-requires
 scramble-requires c =
     record {
-      t = c.requires.t;
-      block_in_bounds = omega (arith, block_between c.args.format);
+      are_bits = c.args.summed.are_bits;
+      block_in_bounds = omega (arith, block_between c.args.summed.format);
     }
 
 pub shape-requires : goal.shape-requires
 shape-requires c =
     let a = c.args in
-    let v = a.summed.now in
+    let v = a.summed.bits.now in
     let rest = all_bits-drop (length v) zeros (bits_zeros long.m) in record {
-      t = rw c.scramble.ensures (all_bits-append (scrambled a.b v) (drop (length v) zeros) (scrambled_bits a.b v) rest);
-      k_in_bounds = omega (arith, block_between a.format);
-      k_in_bounds_2 = omega (arith, (sizes_of a.format).n_is);
+      are_bits = rw c.scramble.ensures (all_bits-append (scrambled a.b v) (drop (length v) zeros) (scrambled_bits a.b v) rest);
+      k_in_bounds = omega (arith, block_between a.summed.format);
+      room = omega (arith, (sizes_of a.summed.format).n_is);
     }
 
 pub returns : goal.returns
 returns c =
     let a = c.args in
-    let k = length a.summed.now / 10 in
-    let s = scrambled a.b a.summed.now in
-    let rest = drop (length a.summed.now) zeros in
-    let within : 10 * k ≤ length s = omega (arith, scrambled-length a.b a.summed.now) in
+    let k = length a.summed.bits.now / 10 in
+    let s = scrambled a.b a.summed.bits.now in
+    let rest = drop (length a.summed.bits.now) zeros in
+    let within : 10 * k ≤ length s = omega (arith, scrambled-length a.b a.summed.bits.now) in
     c.shape.ensures
     ∙ ap (λ (l : List ℕ). l ++ drop (11 * k) a.telegram.now) (ap (shaped k) c.scramble.ensures ∙ groups_front ◌++◌ [] word_of_block 10 k s rest within)
-    ∙ ap (λ (m : ℕ). shaped (m / 10) s ++ drop (11 * (m / 10)) a.telegram.now) c.requires.summed_len
+    ∙ ap (λ (m : ℕ). shaped (m / 10) s ++ drop (11 * (m / 10)) a.telegram.now) c.args.summed.size

@@ -2,8 +2,8 @@
 -- was, and the first bad word is that of the words not yet passed. Assumes nothing.
 use mathlib.Core.Path.{◌≡◌}
 use mathlib.Core.List.{◌++◌}
-use Prim.Native.Nat.{◌*◌, ◌-◌, ◌≤◌}
-use lib.ListN.{length, drop}
+use Prim.Native.Nat.{◌*◌}
+use lib.ListN.{drop}
 use Rattle.bits.specs.Search.{first_of}
 use Rattle.bits.proofs.Left.{Left}
 use Rattle.telegrams.specs.Fields.{unshaped}
@@ -12,8 +12,5 @@ use Rattle.telegrams.proofs.undoing.unshape.Given as goal
 
 abbrev pub invariant-loop-j : goal.invariant-loop-j
 invariant-loop-j l =
-    (l.j ≤ l.k) × (length l.out ≡ length l.initial.out) × Left (is_bad l.telegram) (first_of (is_bad l.telegram) 0 l.k) l.k l.j
+    Left (is_bad l.telegram) (first_of (is_bad l.telegram) 0 l.k) l.k l.j
     × (l.out ≡ unshaped l.j l.telegram ++ drop (10 * l.j) l.initial.out)
-
-abbrev pub decreases-loop-j : goal.decreases-loop-j
-decreases-loop-j l = l.k - l.j

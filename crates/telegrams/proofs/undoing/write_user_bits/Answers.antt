@@ -26,7 +26,7 @@ remove_sum-requires c =
     let a = c.args in
     let size = descrambled-length a.b a.scrambled.now in
     rw (front) (record {
-      t = descrambled_bits a.b a.scrambled.now;
+      are_bits = descrambled_bits a.b a.scrambled.now;
       in_bounds = omega (arith, size);
       block_len_bound = omega (arith, size);
     })

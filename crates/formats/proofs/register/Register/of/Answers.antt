@@ -2,7 +2,6 @@
 use mathlib.Core.Path.{◌≡◌, sym, ap, ◌∙◌}
 use mathlib.Core.List.{List, ◌∷◌}
 use Prim.Native.Nat.{ℕ, ◌+◌, ◌≤◌, ◌<◌, ◌^◌}
-use native.Mathlib.Omega.{arith}
 use lib.Bits.{bit_xor}
 use lib.Dec.{T, ltb, ltb→lt}
 use lib.ListN.{length, get_or, drop}
@@ -29,28 +28,17 @@ done : (es : List ℕ) (i a : ℕ) → length es ≤ i → powers a (drop i es) 
 unfolding powers
 done es i a h = ap (powers a) (rest_done es i h)
 
-pub zero-sum-requires : goal.zero-sum-requires
-zero-sum-requires c = tt
-
-pub loop-i-init : goal.loop-i-init
-loop-i-init c =
-    let es = c.args.exponents.now in
-    (omega arith, c.requires, ap (λ (x : ℕ). powers x es) (sym c.zero-sum.ensures))
-
 pub plus_power-sum-requires : goal.plus_power-sum-requires
-plus_power-sum-requires c =
-    (next c.args.exponents.now c.loop-i.i (omega arith) c.loop-i.invariant.1).0
+plus_power-sum-requires c = (next c.args.exponents.now c.loop-e.e-index c.loop-e-test.true c.loop-e.invariant.0).0
 
-pub loop-i-preserved : goal.loop-i-preserved
-loop-i-preserved c =
+pub loop-e-preserved : goal.loop-e-preserved
+loop-e-preserved c =
     let es = c.args.exponents.now in
-    let i = c.loop-i.i in
-    let h : i < length es = omega arith in (
-      omega arith,
-      (next es i h c.loop-i.invariant.1).1,
-      c.loop-i.invariant.2 ∙ more es i (value_of c.loop-i.sum) h ∙ ap (λ (x : ℕ). powers x (drop (i + 1) es)) (sym c.plus_power-sum.ensures),
+    let i = c.loop-e.e-index in (
+      (next es i c.loop-e-test.true c.loop-e.invariant.0).1,
+      c.loop-e.invariant.1 ∙ more es i (value_of c.loop-e.sum) c.loop-e-test.true
+          ∙ ap (λ (x : ℕ). powers x (drop (i + 1) es)) (sym c.plus_power-sum.ensures),
     )
 
 pub returns : goal.returns
-returns c =
-    sym (c.loop-i.invariant.2 ∙ done c.args.exponents.now c.loop-i.i (value_of c.loop-i.sum) (omega arith))
+returns c = sym (c.loop-e.invariant.1 ∙ done c.args.exponents.now c.loop-e.e-index (value_of c.loop-e.sum) c.loop-e-test.false)
