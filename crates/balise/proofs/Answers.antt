@@ -1,6 +1,6 @@
 -- Whatever a call answers fits the fields of its number, and so is read back from it: B has twelve bits, esb and a turn have ten, a
 -- count has 23, a place is within the limit, and a bad word is one of a telegram. Assumes nothing.
-use mathlib.Core.Path.{◌≡◌, refl, ap, subst, ◌∙◌}
+use mathlib.Core.Path.{◌≡◌, refl, sym, ap, subst, ◌∙◌}
 use mathlib.Core.Bool.{Bool, true, false, cond}
 use mathlib.Core.List.{List, ◌∷◌}
 use Prim.Native.Nat.{ℕ, ◌≤◌, ◌<◌}
@@ -35,7 +35,7 @@ use Rattle.reader.proofs.Laws.{read_accepted}
 use Rattle.reader.proofs.NamesBadWord.{named_below}
 use Rattle.captures.specs.Captures.{capture_values, window_at, search_of, found_with}
 use Rattle.captures.proofs.Exact.{searches}
-use Rattle.balise.specs.AsNumber.{encoded_sizes, checked_sizes, made_sizes, listed_sizes, read_sizes, search_sizes, Fits, ReadBack}
+use Rattle.balise.specs.AsNumber.{packed, encoded_sizes, checked_sizes, made_sizes, listed_sizes, read_sizes, search_sizes, Fits, ReadBack}
 use Rattle.balise.proofs.Fields.{fits_back}
 use Rattle.std.specs.Prelude.{Option, Result, Some, None, Ok, Err}
 use Rattle.encoder.specs.declared.Encoded.{Encoded}
@@ -48,10 +48,19 @@ module _ {A : Type 0} (sizes : List ℕ) (values : A → List ℕ) {a b : A} (e 
   pub same_fits : Fits sizes (values a) → Fits sizes (values b)
   same_fits = subst (λ (x : A). Fits sizes (values x)) e
 
--- what a call that writes is to answer, and what it answered
+  pub same_number : packed sizes (values a) ≡ packed sizes (values b)
+  same_number = ap (λ (x : A). packed sizes (values x)) e
+
+-- what a call that writes is to answer, and what it answered and left in the output
 module _ {A : Type 0} (sizes : List ℕ) (values : A → List ℕ) {due : Outcome A} {a : A} {o : List ℕ} (e : due ≡ outcome a o) where
   pub answer_fits : Fits sizes (values due.answer) → Fits sizes (values a)
   answer_fits = same_fits sizes values (ap (λ (x : Outcome A). x.answer) e)
+
+  pub answer_packed : {n : ℕ} → n ≡ packed sizes (values a) → (n ≡ packed sizes (values due.answer)) × (o ≡ due.output)
+  answer_packed f = (
+    f ∙ sym (same_number sizes values (ap (λ (x : Outcome A). x.answer) e)),
+    sym (ap (λ (x : Outcome A). x.output) e),
+  )
 
 -- ---- single values
 

@@ -28,12 +28,11 @@ pub fn search_bits(capture: &[u8], output: &mut [u8]) -> Result<Found, Refusal>
     let mut short = Walk::at(0);
     // A while, since a step goes on by as much as its walk passes over.
     while long.place < capture.len() || short.place < capture.len() {
-        let tried = if long.place <= short.place {
-            long.step(Format::Long, capture, output)
-        } else {
-            short.step(Format::Short, capture, output)
-        };
-        if let Some(found) = tried {
+        if long.place <= short.place {
+            if let Some(found) = long.step(Format::Long, capture, output) {
+                return Ok(found);
+            }
+        } else if let Some(found) = short.step(Format::Short, capture, output) {
             return Ok(found);
         }
     }

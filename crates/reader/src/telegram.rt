@@ -1,7 +1,7 @@
 // Reading the telegram that a window has at a turn (document 01, "Search, reading and place"; document 02, No. 2 and No. 13).
 ghost use Rattle.std.specs.Prelude.{◌≡◌, ◌≤◌, T, length};
 ghost use Rattle.bits.specs.Bits.{all_bits};
-ghost use Rattle.formats.specs.Numbers.{numbers_of};
+ghost use Rattle.formats.specs.Numbers.{numbers_of, window_bits};
 ghost use Rattle.refusals.specs.Outcome.{outcome};
 ghost use Rattle.reader.specs.AtTurn.{asked_failing, read_telegram, read_at_turn};
 
@@ -63,9 +63,27 @@ pub fn read_turned(
     requires room { (numbers_of window.format).m ≤ length output.old }
     ensures { read_at_turn asked window.entry.format t window.entry.bits.now output.old ≡ outcome result output.new }
 {
+    read_parts(asked, t, window.format, window.bits, output)
+}
+
+// The same of a window's format and bits. They are not a Window here, and the function is not inlined, so that the compiler knows that the
+// bits, which it is then lent by themselves, do not overlap the telegram that they are copied to: the copy needs no `memmove`.
+#[inline(never)]
+fn read_parts(
+    asked: Asked,
+    t: usize,
+    format: Format,
+    bits: &[u8],
+    output: &mut [u8],
+) -> Result<Reading, Refusal>
+    requires are_bits { T (all_bits bits.now) }
+    requires size { length bits.now ≡ window_bits (numbers_of format) }
+    requires t_bound { t ≤ (numbers_of format).n }
+    requires room { (numbers_of format).m ≤ length output.old }
+    ensures { read_at_turn asked format t bits.now output.old ≡ outcome result output.new }
+{
     let mut telegram = [0u8; Long::N];
-    let format = window.format;
-    let flipped = turned::telegram_in(t, window, &mut telegram);
+    let flipped = turned::telegram_in(t, Window { format, bits }, &mut telegram);
     let n = format.telegram_bits();
     let found = Telegram {
         format,

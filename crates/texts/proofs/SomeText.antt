@@ -8,7 +8,7 @@ use Rattle.texts.specs.declared.reading.BadText.{BadText}
 use Rattle.std.specs.Prelude.{Result, Ok, Err}
 use Rattle.texts.specs.Reading.{Taken, held, taken, kept}
 use Rattle.texts.specs.Input.{OfSomeText}
-use Rattle.texts.proofs.Taken.{taken-nil, taken-append, kept-held, kept_more, kept_stopped}
+use Rattle.texts.proofs.Taken.{taken-nil, taken-append, kept-held, kept_more, kept_stopped, counted_within}
 
 pub some_none : (count : ℕ) (old : List ℕ) → count ≤ length old → OfSomeText (outcome (Ok count) old) count old
 some_none count old h = ([], sym (ap (λ (t : Taken). kept t old) (taken-nil (length old) (held count old)) ∙ kept-held old count h))
@@ -29,3 +29,6 @@ some_failed count n buffer old w = (
   kept_stopped (length old) (taken (length old) (held count old) w.0) n buffer old w.1
       ∙ ap (λ (t : Taken). kept t old) (sym (taken-append (length old) (held count old) w.0 (0 ∷ []))),
 )
+
+pub some_within : (count n : ℕ) (buffer old : List ℕ) → OfSomeText (outcome (Ok n) buffer) count old → n ≤ length buffer
+some_within count n buffer old w = counted_within (taken (length old) (held count old) w.0) n buffer old w.1

@@ -80,6 +80,11 @@ counted : (t : Taken) (n : ℕ) (buffer old : List ℕ) → outcome (Ok n) buffe
 counted (good s) n buffer old e = (s, refl, cc (ap (λ (o : Outcome (Result ℕ BadText)). o.answer) e), ap (λ (o : Outcome (Result ℕ BadText)). o.output) e)
 counted (bad s) n buffer old e = clash (cc (ap (λ (o : Outcome (Result ℕ BadText)). o.answer) e))
 
+pub counted_within : (t : Taken) (n : ℕ) (buffer old : List ℕ) → outcome (Ok n) buffer ≡ kept t old → n ≤ length buffer
+counted_within t n buffer old e =
+    let w = counted t n buffer old e in
+    omega (arith, w.2, ap length w.3 ∙ length-append w.0 (drop (length w.0) old))
+
 -- a buffer that holds the bits of a text, and then those of a text more
 pub kept_more : (limit : ℕ) (t : Taken) (n : ℕ) (buffer old more : List ℕ) {o : Outcome (Result ℕ BadText)} → outcome (Ok n) buffer ≡ kept t old
     → o ≡ kept (taken limit (held n buffer) more) buffer → o ≡ kept (taken limit t more) old

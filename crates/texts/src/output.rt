@@ -46,11 +46,12 @@ pub fn print_refused(rt: &impl Print, refusal: Refusal) -> io::Result<()> {
     }
 }
 
-// A line of bits.
+// A line of bits. The text has room for all of a part, so that no bit is left out.
 pub fn print_bits(rt: &impl Print, bits: &[u8]) -> io::Result<()> {
     for part in bits.chunks(CHUNK) {
         let mut text = [0u8; CHUNK];
         let n = write_text(part, &mut text);
+        prove!(n == part.len());
         rt.write_all(&text[..n])?;
     }
     println!(rt)

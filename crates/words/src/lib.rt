@@ -104,10 +104,11 @@ pub fn look_up(word: u16) -> Result<u16, Kind>
     let mark = absent + (barred.group_20 >> place) % 2 + 2 * ((barred.group_250 >> place) % 2);
     let below = u64::count_ones(words % (1u64 << place)) as u16;
     let rank = part.before + below + 2048 * (mark as u16);
+    let kind = kind_marked(rank);
     if rank < 2048 {
         return Ok(rank);
     }
-    Err(kind_marked(rank))
+    Err(kind)
 }
 
 // Whether a word is in the table.

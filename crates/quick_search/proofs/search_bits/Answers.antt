@@ -13,7 +13,6 @@ use Rattle.quick_search.specs.declared.walk.Walk.{Walk}
 use Rattle.quick_search.specs.Stepped.{Stepped}
 use Rattle.quick_search.proofs.Passing.{passed_both}
 use Rattle.quick_search.proofs.search_bits.Goals as goal
-use Rattle.quick_search.proofs.search_bits.Goals.{then-long-short, else-long-short}
 use Rattle.std.specs.Prelude.{Option}
 
 -- what a step tells, by the case of its answer, of the output that was lent
@@ -25,20 +24,20 @@ stepped format s p next after {out = out} {answer = answer} same tells e =
 pub returns-in-Some : goal.returns-in-Some
 returns-in-Some c =
     let s = c.args.capture.now in
-    let out = c.args.output.now in
     let (same, long, short) = c.loop-long.invariant in
-    elim c.if-long-short.branch [
-      | then-long-short w ↦
-          let p = c.loop-long.long.place in
-          let (at, reads) = stepped Long s p _ _ same w.step-tried.ensures (sym w.tried-is ∙ c.in-Some.is) in
-          let passed = passed_both s p long.none (λ j from below. short.none j from (omega (arith, w.if-long-short.true))) in
-          rw w.output-is (long-found s out p passed c.in-Some.found _ at reads)
-      | else-long-short w ↦
-          let p = c.loop-long.short.place in
-          let (at, reads) = stepped Short s p _ _ same w.step-tried-else-long-short.ensures (sym w.tried-is ∙ c.in-Some.is) in
-          let passed = passed_both s p (λ j from below. long.none j from (omega (arith, w.if-long-short.false))) short.none in
-          rw w.output-is (short-found s out p passed (long.none p (omega arith) w.if-long-short.false) c.in-Some.found _ at reads)
-    ]
+    let p = c.loop-long.long.place in
+    let (at, reads) = stepped Long s p _ _ same c.step.ensures c.in-Some.is in
+    let passed = passed_both s p long.none (λ j from below. short.none j from (omega (arith, c.if-long-short.true))) in
+    long-found s c.args.output.now p passed c.in-Some.found _ at reads
+
+pub returns-in-Some-step : goal.returns-in-Some-step
+returns-in-Some-step c =
+    let s = c.args.capture.now in
+    let (same, long, short) = c.loop-long.invariant in
+    let p = c.loop-long.short.place in
+    let (at, reads) = stepped Short s p _ _ same c.step-else-long-short.ensures c.in-Some-step.is in
+    let passed = passed_both s p (λ j from below. long.none j from (omega (arith, c.if-long-short.false))) short.none in
+    short-found s c.args.output.now p passed (long.none p (omega arith) c.if-long-short.false) c.in-Some-step.found _ at reads
 
 pub returns : goal.returns
 returns c =

@@ -24,6 +24,6 @@ returns-then-rank-lt2048 c =
 
 pub returns : goal.returns
 returns c =
-    ap Err c.kind_marked.ensures
+    ap Err c.kind_marked-kind.ensures
     ∙ marked_kind c.args.word _ c.part_at-part.ensures.0 _ c.part_at-part.ensures.1 _ _ c.barred_at-barred.ensures.1
     c.barred_at-barred.ensures.0 (omega arith)
